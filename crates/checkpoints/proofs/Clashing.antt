@@ -17,7 +17,7 @@ use Rattle.tree_walk.proofs.Inside.{in_itself}
 use Rattle.checkpoints.specs.Placing.{is_open, clashes}
 use Rattle.checkpoints.specs.Passing.{Behind, AllBehind, covered, top_with, IsTop, closed_paths, closed_with}
 use Rattle.checkpoints.specs.Passing.{IsBelow, ArePassed, StartsBehind, starts_in, moved, first_of}
-use Rattle.checkpoints.proofs.Tops.{between, behind_trans, behind_in, same_place, less_out, top_push, no_top}
+use Rattle.checkpoints.proofs.Tops.{between, behind_trans, behind_in, same_place, less_out, top_push}
 use Rattle.outside.proofs.Names.{all_weaker}
 
 pub some_bytes : (path : List ℕ) → refusal path ≡ None → 0 < length path
@@ -97,9 +97,6 @@ less_of Less e = refl
 less_of Equal e = absurd (false≢true e)
 less_of Greater e = absurd (false≢true e)
 
-pub nothing_passed : (path : List ℕ) → ArePassed [] None path
-nothing_passed path = record { top = no_top; below = tt }
-
 -- an entry that was looked at is passed
 pub record IsNext (ahead : List Entry × List Entry) (e : Entry) (path : List ℕ) : Type 0 where
   pub ascend : IsStrictlySortedBy path_cmp (paths (ahead.0 ++ ahead.1))
@@ -126,26 +123,6 @@ next_passed passed (r ∷ ahead) e closed path n p =
 pub passed_more : (ahead : List Entry × List Entry) (e : Entry) (closed : Option (List ℕ)) (path : List ℕ) → IsNext ahead e path →
     ArePassed ahead.0 closed path → ArePassed (moved ahead.0 ahead.1).0 (closed_with closed e) path
 passed_more ahead e closed path n p = next_passed ahead.0 ahead.1 e closed path n p
-
-pub fewer : (passed ahead : List Entry) (e : Entry) → Some e ≡ first_of ahead → length (moved passed ahead).1 < length ahead
-fewer passed [] e f = absurd (cc f)
-fewer passed (r ∷ ahead) e f = omega arith
-
-pub starts_over : (path : List ℕ) (ahead : List Entry) → None ≡ first_of ahead → StartsBehind path ahead
-starts_over path [] f = tt
-starts_over path (r ∷ ahead) f = absurd (cc f)
-
-pub starts_behind : (path : List ℕ) (ahead : List Entry) (e : Entry) → Some e ≡ first_of ahead → is_lt (path_cmp e.path path) ≡ false → StartsBehind path ahead
-starts_behind path [] e f l = absurd (cc f)
-starts_behind path (r ∷ ahead) e f l = let same : e ≡ r = cc f in subst (λ (x : Entry). Behind path x.path) same l
-
-pub starts_none : (path : List ℕ) (ahead : List Entry) → None ≡ first_of ahead → false ≡ starts_in path ahead
-starts_none path [] f = refl
-starts_none path (r ∷ ahead) f = absurd (cc f)
-
-pub starts_some : (path : List ℕ) (ahead : List Entry) (e : Entry) → Some e ≡ first_of ahead → is_in e.path path ≡ starts_in path ahead
-starts_some path [] e f = absurd (cc f)
-starts_some path (r ∷ ahead) e f = let same : e ≡ r = cc f in ap (λ (x : Entry). is_in x.path path) same
 
 -- ---- which entries clash
 

@@ -16,8 +16,8 @@ use Rattle.flat_list.specs.Spelling.{Spells, SpellsOne, RefusesExactly, IsRefuse
 use Rattle.circle_lists.specs.declared.errors.ListsError.{ListsError}
 use Rattle.circle_lists.specs.declared.errors.ListsError.TheVariants as error
 use Rattle.circle_lists.specs.Spelling as circle
-use Rattle.circle_lists.specs.Checkpoint.{file_path, Fits, AllFit, HoldsList, HoldFirst, HoldLists, Reached, SameButFiles, StopsReadingAt, StopsWritingAt}
-use Rattle.circle_lists.specs.Checkpoint.{IsDamagedAt, ReadsBack}
+use Rattle.circle_lists.specs.Checkpoint.{file_path, AllFit, HoldsList, HoldLists, Reached, SameButFiles, StopsReadingAt, StopsWritingAt}
+use Rattle.circle_lists.specs.Checkpoint.{ReadsBack}
 use Rattle.circle_lists.specs.Checkpoint as lists
 use Rattle.circle_lists.proofs.Places.{folder_differs, parent_of_file}
 use Rattle.tool_words.specs.Asked.{input}

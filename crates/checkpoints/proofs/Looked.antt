@@ -1,6 +1,6 @@
 -- The pass over the left strings in path order.
-use Rattle.std.proofs.Common.{◌≡◌, ℕ, ◌+◌, ◌<◌, ◌≤◌, ◌||◌, List, [], ◌∷◌, ◌++◌, length, take, drop, get_or, suc, refl, ap, ◌∙◌, sym, subst, arith}
-use Rattle.std.proofs.Common.{Option, None}
+use Rattle.std.proofs.Common.{◌≡◌, ℕ, ◌+◌, ◌<◌, ◌≤◌, ◌||◌, List, [], ◌∷◌, ◌++◌, length, take, drop, get_or, suc, ap, ◌∙◌, sym, subst, arith}
+use Rattle.std.proofs.Common.{Option}
 use Rattle.std.specs.Prelude.{nat_lt}
 use Rattle.std.specs.List.{list_any, count_by}
 use Rattle.std.specs.List.Sorted.{IsSortedByKey}
@@ -14,10 +14,9 @@ use Rattle.entry_pages.specs.declared.entries.Entry.{Entry}
 use Rattle.tree_walk.specs.Roots.{is_in}
 use Rattle.checkpoints.specs.Placing.{clashes, is_misplaced}
 use Rattle.checkpoints.specs.Passing.{Behind, covered, top_with, IsTop, IsBelow, ArePassed, starts_at, Numbered, paths_in, lowest_with, IsLowest}
-use Rattle.checkpoints.proofs.Tops.{no_top, top_push, less_after}
-use Rattle.checkpoints.proofs.Clashing.{nothing_passed}
+use Rattle.checkpoints.proofs.Tops.{top_push, less_after}
 use Rattle.checkpoints.proofs.Counting.{Rises, rises, rises_before, again_is}
-use Rattle.checkpoints.proofs.Lowest.{no_lowest, lowest_push}
+use Rattle.checkpoints.proofs.Lowest.{lowest_push}
 use Rattle.checkpoints.proofs.Numbers.{IsAt, take_push}
 use Rattle.outside.proofs.Names.{all_weaker}
 
@@ -35,14 +34,6 @@ pub record Stands (done : List Entry) (lefts : Numbered) (s : State) : Type 0 wh
   pub passed : (k : ℕ) (d : ℕ × List ℕ) → s.at ≤ k → k < length lefts → ArePassed s.ahead.0 s.closed (get_or lefts k d).1
   pub top : IsTop (paths_in (take s.at lefts)) s.above
   pub low : IsLowest (is_misplaced done (paths_in lefts)) (take s.at lefts) s.lowest
-
-pub starts : (done : List Entry) (lefts : Numbered) → Stands done lefts (record { at = 0; ahead = ([], done); closed = None; above = None; lowest = None })
-starts done lefts = record {
-  all = refl;
-  passed = λ k d g h. nothing_passed (get_or lefts k d).1;
-  top = no_top;
-  low = no_lowest (is_misplaced done (paths_in lefts));
-}
 
 -- the next left string, up to which the entries were passed
 pub record IsLook (lefts : Numbered) (s : State) (l : ℕ × List ℕ) (ahead : List Entry × List Entry) (closed : Option (List ℕ)) : Type 0 where

@@ -6,12 +6,9 @@ use Rattle.std.specs.List.{All, Contains, enumerate_from}
 use Rattle.std.proofs.lemmas.Bool.{false≢true, false_from_ne_true}
 use Rattle.std.proofs.lemmas.Bool.Decides.{nat_tests}
 use Rattle.std.proofs.lemmas.List.{get_or_append_left, get_or_at, length-append}
-use Rattle.std.proofs.lemmas.List.Elements.{All-nil, All-push, All-weaker, Contains-append_left, Contains-push}
+use Rattle.std.proofs.lemmas.List.Elements.{All-push, All-weaker, Contains-append_left, Contains-push}
 use Rattle.std.proofs.lemmas.List.FromFn.{length-enumerate_from, get_or-enumerate_from}
 use Rattle.checkpoints.specs.Passing.{Numbered, lower_of, lowest_with, IsUpTo, IsLowest}
-
-pub no_lowest : (test : List ℕ → Bool) → IsLowest test [] None
-no_lowest test = record { among = tt; under = All-nil (λ l. test l.1 ≡ true → IsUpTo None l.0) }
 
 still_up : (lowest : Option ℕ) (n m : ℕ) → IsUpTo lowest m → IsUpTo (lower_of lowest n) m
 still_up None n m h = absurd h

@@ -1,6 +1,6 @@
 -- The old list file is removed, or why it is not.
-use Rattle.std.proofs.Common.{◌≡◌, ◌⊎◌, inl, inr, ℕ, Bool, true, false, cond, not, List, Option, Some, None, refl, ap, sym, ◌∙◌, subst}
-use Rattle.std.specs.Prelude.{⊤, IfErr, IfSome, IsTrue, OnErr, OnOk, Result, Ok, Err, is_some, is_none}
+use Rattle.std.proofs.Common.{◌≡◌, inl, inr, ℕ, Bool, true, false, cond, List, Option, Some, None, refl, sym, subst}
+use Rattle.std.specs.Prelude.{⊤, IfSome, IsTrue, OnErr, OnOk, Result, Ok, Err}
 use Rattle.std.proofs.lemmas.Bool.{false≢true}
 use Rattle.std.specs.FinMap.{get, remove}
 use Rattle.outside.specs.Tree.{Files, Node, is_dir}

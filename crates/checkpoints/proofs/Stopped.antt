@@ -1,5 +1,5 @@
 -- Why no checkpoint was written, step by step.
-use Rattle.std.proofs.Common.{◌≡◌, ◌⊎◌, inl, inr, ℕ, ◌<◌, ◌≤◌, List, Option, Some, None, refl, ap, sym, ◌∙◌, subst}
+use Rattle.std.proofs.Common.{◌≡◌, ◌⊎◌, inl, inr, ℕ, ◌<◌, ◌≤◌, List, Some, refl, sym, subst}
 use Rattle.std.specs.Prelude.{IfErr, IfSome, Result, Ok, Err, is_some}
 use Rattle.outside.specs.Count.{RoseBy}
 use Rattle.outside.specs.declared.plots.WriteError.{WriteError}

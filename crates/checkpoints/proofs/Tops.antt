@@ -47,16 +47,6 @@ between k z y n m e =
           absurd (false≢true (sym out ∙ sym (is_in_is y k) ∙ e))
     ] refl
 
-less_itself : (x : List ℕ) → is_lt (path_cmp x x) ≡ false
-less_itself x = elim (path_cmp x x) as (λ c. path_cmp x x ≡ c → is_lt c ≡ false) [
-  | Less ↦ λ l. absurd (cc (path_cmp_total.antisymm x x))
-  | Equal ↦ λ q. refl
-  | Greater ↦ λ g. refl
-] refl
-
-pub behind_itself : (x : List ℕ) → Behind x x
-behind_itself x = less_itself x
-
 pub behind_trans : (x y z : List ℕ) → Behind x y → Behind y z → Behind x z
 behind_trans x y z n m = behind_cases (Behind x z) x y n (λ s. subst (λ w. Behind w z) (sym s) m) (λ l.
     behind_cases (Behind x z) y z m (λ s. subst (Behind x) s n) (λ r.
@@ -79,9 +69,6 @@ any_push f (x ∷ xs) z = ap (λ b. f x || b) (any_push f xs z) ∙ regroup (f x
 pub before_push : (P : List ℕ → Type 0) (xs : List (List ℕ)) (z : List ℕ) → AllByRecursion P (xs ++ z ∷ []) → AllByRecursion P xs × P z
 before_push P [] z h = (tt, h.0)
 before_push P (x ∷ xs) z h = let r = before_push P xs z h.1 in ((h.0, r.0), r.1)
-
-pub no_top : IsTop [] None
-no_top = record { among = tt; covers = λ y h. refl }
 
 or_both : (a b c : Bool) → a ≡ c → (b ≡ true → c ≡ true) → (a || b) ≡ c
 or_both true b c e h = e

@@ -14,7 +14,7 @@ use Rattle.outside.proofs.Saved.{put_one}
 use Rattle.circle_lists.specs.declared.errors.ListsError.{ListsError}
 use Rattle.circle_lists.specs.declared.errors.ListsError.TheVariants as error
 use Rattle.circle_lists.specs.Spelling.{Spells}
-use Rattle.circle_lists.specs.Checkpoint.{file_path, Fits, HoldsList, HoldFirst, SameButFiles, HasPlace, HasNoPlace}
+use Rattle.circle_lists.specs.Checkpoint.{file_path, HoldsList, HoldFirst, SameButFiles, HasPlace, HasNoPlace}
 use Rattle.circle_lists.specs.Checkpoint.{StopsWritingAt}
 use Rattle.circle_lists.proofs.Places.{parent_of_file, folder_differs, files_differ, later_differs}
 
@@ -37,21 +37,12 @@ saved_holds dir rank ranks ps path bytes (Some files) new is spells tells saved 
       spells = spells;
     })
 
-pub saved_place : {dir : List ℕ} {rank : ℕ} (path bytes : List ℕ) (old new : Option Files) → path ≡ file_path dir rank → Fits dir rank →
-    IsSaved path bytes old new → HasPlace dir old rank
-saved_place path bytes None new is fits saved = record { fits = fits; free = tt }
-saved_place path bytes (Some files) new is fits saved = record { fits = fits; free = subst (λ p. can_save files p ≡ true) is saved.0 }
-
 pub saved_rest : (path bytes this : List ℕ) (old new : Option Files) → path ≡ this → IsSaved path bytes old new →
     IfSome old (λ files. IfSome new (SameBut this files))
 saved_rest path bytes this None new is saved = tt
 saved_rest path bytes this (Some files) new is saved =
     subst (λ o. IfSome o (SameBut this files)) (sym saved.1)
     (subst (λ p. SameBut p files (insert files path (new_file bytes))) is (put_one files path (new_file bytes)).others)
-
-pub same_rest : (this : List ℕ) (tree : Option Files) → IfSome tree (λ files. IfSome tree (SameBut this files))
-same_rest this None = tt
-same_rest this (Some files) = λ q off. refl
 
 -- ---- several files
 
@@ -65,10 +56,6 @@ pub record Wrote (dir : List ℕ) (ranks : ℕ) (lists : List (List (List ℕ)))
 pub record WroteOne (dir : List ℕ) (rank : ℕ) (old new : Option Files) : Type 0 where
   pub tells : is_some new ≡ is_some old
   pub rest : IfSome old (λ files. IfSome new (SameBut (file_path dir rank) files))
-
-pub wrote_none : (dir : List ℕ) (ranks : ℕ) (lists : List (List (List ℕ))) (tree : Option Files) → Wrote dir ranks lists 0 tree tree
-wrote_none dir ranks lists None = record { tells = refl; holds = tt; rest = tt }
-wrote_none dir ranks lists (Some files) = record { tells = refl; holds = λ rank lt. absurd (omega (arith, lt)); rest = λ q off. refl }
 
 rest_more : (dir : List ℕ) (k : ℕ) (old mid new : Files) → SameButFiles dir k old mid → SameBut (file_path dir k) mid new →
     SameButFiles dir (k + 1) old new
@@ -101,15 +88,6 @@ wrote_more {dir} {ranks} {lists} {k} (Some old) (Some mid) (Some new) few w one 
   holds = holds_more dir ranks k lists mid new few one.rest w.holds last;
   rest = rest_more dir k old mid new w.rest one.rest;
 }
-
--- of one that failed too every path but those of the first so many files is as before
-pub rest_failed : {dir : List ℕ} {ranks : ℕ} {lists : List (List (List ℕ))} {k : ℕ} (n : ℕ) (old mid new : Option Files) → k < n →
-    Wrote dir ranks lists k old mid → WroteOne dir k mid new → IfSome old (λ files. IfSome new (SameButFiles dir n files))
-rest_failed n None mid new lt w one = tt
-rest_failed n (Some old) None new lt w one = absurd (false≢true w.tells)
-rest_failed n (Some old) (Some mid) None lt w one = absurd (false≢true one.tells)
-rest_failed {dir} {ranks} {lists} {k} n (Some old) (Some mid) (Some new) lt w one = λ q off.
-    rest_more dir k old mid new w.rest one.rest q (λ rank below. off rank (omega (arith, lt, below)))
 
 -- ---- places, as they were before
 

@@ -8,17 +8,13 @@ use Rattle.std.proofs.Math.Seq.{get_or-append_seam}
 use Rattle.outside.specs.Tree.{Files}
 use Rattle.circle_lists.specs.declared.errors.ListsError.{ListsError}
 use Rattle.circle_lists.specs.declared.errors.ListsError.TheVariants as error
-use Rattle.circle_lists.specs.Checkpoint.{Fits, AllFit, HoldsList, HoldFirst, HoldLists, Reached, StopsReadingAt}
+use Rattle.circle_lists.specs.Checkpoint.{Fits, AllFit, HoldsList, HoldFirst, Reached, StopsReadingAt}
 use Rattle.circle_lists.proofs.Saved.{counted}
 
 -- the lists that were read so far
 pub record Told (dir : List ℕ) (ranks : ℕ) (lists : List (List (List ℕ))) (tree : Option Files) : Type 0 where
   pub holds : IfSome tree (HoldFirst (length lists) dir ranks lists)
   pub fit : AllFit dir (length lists)
-
-pub told_none : (dir : List ℕ) (ranks : ℕ) (tree : Option Files) → Told dir ranks [] tree
-told_none dir ranks None = record { holds = tt; fit = λ rank lt. absurd (omega (arith, lt)) }
-told_none dir ranks (Some files) = record { holds = λ rank lt. absurd (omega (arith, lt)); fit = λ rank lt. absurd (omega (arith, lt)) }
 
 holds_more : (dir : List ℕ) (ranks : ℕ) (lists : List (List (List ℕ))) (ps : List (List ℕ)) (files : Files) → HoldFirst (length lists) dir ranks lists files →
     HoldsList dir (length lists) ranks ps files → HoldFirst (length (lists ++ ps ∷ [])) dir ranks (lists ++ ps ∷ []) files
@@ -48,11 +44,6 @@ pub reached : (dir : List ℕ) (rank ranks : ℕ) (lists : List (List (List ℕ)
 reached dir rank ranks lists None is some lt t = (some, lt, subst (AllFit dir) is t.fit, tt)
 reached dir rank ranks lists (Some files) is some lt t =
     (some, lt, subst (AllFit dir) is t.fit, (lists, subst (λ k. HoldFirst k dir ranks lists files) is t.holds))
-
-pub all_told : (dir : List ℕ) (ranks : ℕ) (lists : List (List (List ℕ))) (tree : Option Files) → length lists ≡ ranks → Told dir ranks lists tree →
-    IfSome tree (HoldLists dir lists)
-all_told dir ranks lists None is t = tt
-all_told dir ranks lists (Some files) is t = subst (λ n. HoldFirst (length lists) dir n lists files) (sym is) t.holds
 
 pub map_more : {A B : Type 0} (f : A → B) (xs ys : List A) (y : A) → ys ≡ xs ++ y ∷ [] → map f ys ≡ map f xs ++ f y ∷ []
 map_more f xs ys y is = ap (map f) is ∙ map-append f xs (y ∷ [])

@@ -12,7 +12,7 @@ use Rattle.rank_queue.specs.Shares.{generator_of}
 use Rattle.post_board.specs.Shown.{Strings, Batches, more, with_taken}
 use Rattle.post_board.specs.Deeds.{Deed, ask, give, refuse, take, take_none, pass, restart, conclude, see_over}
 use Rattle.circle_run.specs.Balance as balance
-use Rattle.circle_run.specs.Balance.{Log, Balanced}
+use Rattle.circle_run.specs.Balance.{Log}
 use Rattle.circle_run.specs.Moves.{Move, handled, served, did, noted, Side, answer_of, batches_after, batches_after_all, Does}
 use Rattle.circle_run.specs.Ranks.{DoesAll}
 use Rattle.circle_run.specs.Stages.{dealt_to}

@@ -19,10 +19,6 @@ pub not_true : (b : Bool) → (b ≡ true → ⊥) → b ≡ false
 not_true true f = absurd (f refl)
 not_true false f = refl
 
-pub not_false : (b : Bool) → (b ≡ false → ⊥) → b ≡ true
-not_false true f = refl
-not_false false f = absurd (f refl)
-
 pub true_not_false : (b : Bool) → b ≡ true → b ≡ false → ⊥
 true_not_false b e f = (let x : true ≡ false = sym e ∙ f in cc)
 

@@ -349,22 +349,6 @@ module _ {J S T P Q : Type 0} (log : J → Log) (heard : J → Option (List ℕ)
       (came_then log plain shows tells seats (Together some done w.r.queue w.r2.queue w.r2.me c) (Halts (halts_by done due)) K w.r w.p w.r3 w.p3 w.r4 w.p4
       (with_halt some done w.r.queue w.r2.queue w.r2.me c due) went e)
 
-  -- the end was seen
-  pub came_over : (r : Rank J S T) (p : P) (r1 : Rank J S T) (p1 : P) → IsRing r.me (tells p) HeardOver → r1.ended ≡ true → r1.job ≡ r.job
-      → Came log plain shows tells seats (Heard HeardOver) r p r1 p1 → Came log plain shows tells seats (Works heard shows tells Acted r p r1) r p r1 p1
-  came_over r p r1 p1 read ended job a =
-      came_as log plain shows tells seats (Heard HeardOver) (Works heard shows tells Acted r p r1) r p r1 p1
-      (λ moves found h does. record {
-        kind = inr (inl (inl h));
-        chosen = record {
-          ring = HeardOver;
-          is = read;
-          over = λ e. (h, ended, ap heard job);
-          goes = λ more on. absurd (more refl);
-          winds = λ more yes. absurd (more refl);
-        };
-      }) a
-
   -- it is to halt
   pub came_wound : (ring : Ring) (first : Bool) (done : Did) (r : Rank J S T) (p : P) (r1 : Rank J S T) (p1 : P) (r2 : Rank J S T) (p2 : P)
       → ring ≢ HeardOver → IsRing r.me (tells p) ring → is_to_halt ring r ≡ true → first ≡ tells_first ring r → r1.asked ≡ r.asked → r2.job ≡ r.job

@@ -47,9 +47,6 @@ plus_none a = omega arith
 cap_more : (a k n : ℕ) → min (min a n + k) n ≡ min (a + k) n
 cap_more a k n = omega arith
 
-share_of : ℕ → ℕ → ℕ → Share
-share_of h g t = record { handled = h; given = g; taken = t }
-
 one_counted : (e : Event) (a b c : ℕ) → counted_one e (capped a b c) ≡ capped (a + handles_one e) (b + gives_so e) (c + takes_so e)
 one_counted (Handle rank path kids) a b c =
     ap (λ (x : ℕ). record (capped a b c) { handled = x }) (cap_more a 1 (2 ^ 64 - 1))

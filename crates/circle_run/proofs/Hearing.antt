@@ -1,13 +1,10 @@
 -- What a rank reads of the ring, how it moves the token on, and whether it is to halt.
-use Rattle.std.proofs.Common.{◌≡◌, ◌≢◌, ℕ, zero, suc, ◌-◌, ◌<◌, refl, sym, subst, inl, ap, ◌∙◌, arith, eq-eqb, Bool, true, false, [], ◌∷◌}
+use Rattle.std.proofs.Common.{◌≡◌, ◌≢◌, ℕ, zero, suc, ◌<◌, refl, sym, subst, inl, ap, ◌∙◌, arith, Bool, true, false, [], ◌∷◌}
 use Rattle.std.proofs.Common.{◌||◌, ◌&&◌, Option, Some, None}
-use Rattle.std.specs.Prelude.{if◌then◌else◌, not}
-use Rattle.ring_core.specs.World.{darker, is_over}
-use Rattle.ring_core.specs.Step.{is_at}
+use Rattle.std.specs.Prelude.{not}
+use Rattle.ring_core.specs.World.{darker}
 use Rattle.ring_core.specs.declared.states.Colour.{Colour}
 use Rattle.ring_core.specs.declared.states.Colour.TheVariants.{White, Black}
-use Rattle.ring_core.specs.declared.states.Token.{Token}
-use Rattle.ring_core.specs.declared.states.Token.TheVariants.{At, Over}
 use Rattle.post_board.specs.Shown.{Shown}
 use Rattle.post_board.specs.Told.{Told}
 use Rattle.post_board.specs.Deeds.{Deed, pass, restart, conclude}
@@ -15,36 +12,12 @@ use Rattle.post_board.specs.Calls.{RingTold, hearing}
 use Rattle.post_board.specs.declared.answers.Ring.{Ring}
 use Rattle.post_board.specs.declared.answers.Ring.TheVariants.{Elsewhere, Here, Over as HeardOver, Halted as HeardHalted}
 use Rattle.circle_run.specs.Moves.{did, IsHalted}
-use Rattle.circle_run.specs.Choices.{to_move, moved_on, ring_of}
-use Rattle.circle_run.specs.Choices.{IsRing}
+use Rattle.circle_run.specs.Choices.{to_move, moved_on}
 use Rattle.circle_run.specs.Choices.{is_halt, tells_first, has_done_all, is_to_halt}
 use Rattle.circle_run.specs.Private.Steps.{Follows}
 use Rattle.circle_run.specs.declared.steps.Did.TheVariants.{Acted}
 use Rattle.circle_run.specs.declared.ranks.Rank.{Rank}
 use Rattle.circle_run.proofs.Asked.{true_not_false}
-
--- what is read of the ring is what the token says
-elsewhere_is : (token : Token) (me : ℕ) (called : Bool) → is_at token me ≡ false → is_over token ≡ false → called ≡ false → Elsewhere ≡ ring_of me token called
-elsewhere_is (At place colour) me called away going off =
-    let away_is : Elsewhere ≡ ring_of me (At place colour) false = cc in
-    subst (λ (b : Bool). Elsewhere ≡ ring_of me (At place colour) b) (sym off) away_is
-elsewhere_is Over me called away going off = absurd (true_not_false true refl going)
-
-here_is : (token : Token) (me : ℕ) (colour : Colour) (called : Bool) → token ≡ At me colour → called ≡ false → Here colour ≡ ring_of me token called
-here_is token me colour called at off =
-    sym (ap (λ (t : Token). ring_of me t called) at ∙ ap (ring_of me (At me colour)) off
-    ∙ ap (λ (b : Bool). if b then Here colour else Elsewhere) (eq-eqb me me refl))
-
-halted_is : (token : Token) (me : ℕ) (called : Bool) → is_over token ≡ false → called ≡ true → HeardHalted ≡ ring_of me token called
-halted_is (At place colour) me called going on = sym (ap (ring_of me (At place colour)) on)
-halted_is Over me called going on = absurd (true_not_false true refl going)
-
-pub ring_read : (ring : Ring) (s : Shown) (me : ℕ) (t t' : Option Told) → s.number ≡ me → RingTold s ring t t' → IsRing me t ring
-ring_read ring s me None t' number told = tt
-ring_read Elsewhere s me (Some t) t' number told = elsewhere_is t.token me t.halt (subst (λ (k : ℕ). is_at t.token k ≡ false) number told.0.0) told.0.1 told.0.2
-ring_read (Here colour) s me (Some t) t' number told = here_is t.token me colour t.halt (subst (λ (k : ℕ). t.token ≡ At k colour) number told.0.0) told.0.1
-ring_read HeardOver s me (Some t) t' number told = sym (ap (λ (k : Token). ring_of me k t.halt) told.0.1)
-ring_read HeardHalted s me (Some t) t' number told = halted_is t.token me t.halt told.0.0 told.0.1
 
 -- where it read that all are to halt, they are
 pub halt_read : (ring : Ring) (s : Shown) (t t' : Option Told) → ring ≡ HeardHalted → RingTold s ring t t' → IsHalted t'
@@ -56,12 +29,6 @@ halt_read HeardOver s t t' is told = absurd (true_not_false (is_halt HeardHalted
 
 pub knows_read : (ring : Ring) (s s' : Shown) → ring ≡ HeardHalted → s' ≡ hearing s ring → s'.knows_halt ≡ true
 knows_read ring s s' is shown = ap (λ (x : Shown). x.knows_halt) shown ∙ ap (λ (r : Ring). (hearing s r).knows_halt) is
-
-pub halted_kept : (ring : Ring) (s s' : Shown) → s' ≡ hearing s ring → s'.halted ≡ s.halted
-halted_kept Elsewhere s s' shown = ap (λ (x : Shown). x.halted) shown
-halted_kept (Here colour) s s' shown = ap (λ (x : Shown). x.halted) shown
-halted_kept HeardOver s s' shown = ap (λ (x : Shown). x.halted) shown
-halted_kept HeardHalted s s' shown = ap (λ (x : Shown). x.halted) shown
 
 -- how the token is moved on
 pub moved_above : (me : ℕ) (colour : Colour) → 0 < me → moved_on me colour ≡ pass colour

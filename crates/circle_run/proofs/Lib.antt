@@ -1,4 +1,3 @@
-pub mod Weighed
 pub mod Counted
 pub mod Known
 pub mod Stepped

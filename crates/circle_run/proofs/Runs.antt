@@ -11,7 +11,7 @@ use native.Mathlib.Decide.{ℕ_discrete}
 use Rattle.ring_core.specs.declared.states.Token.{Token}
 use Rattle.ring_core.specs.declared.states.RankState.{RankState}
 use Rattle.ring_core.specs.declared.events.Event.{Event}
-use Rattle.ring_core.specs.declared.events.Event.TheVariants.{Handle, Ask, Give, Refuse, Take, TakeNone, Pass, Restart, Conclude, SeeOver}
+use Rattle.ring_core.specs.declared.events.Event.TheVariants.{Handle}
 use Rattle.ring_core.specs.World.{Seen, fresh, rank_of, dealt, started}
 use Rattle.ring_core.specs.Step.{refusal, ranks_after, token_after, after}
 use Rattle.ring_core.specs.Picture.{put}

@@ -161,19 +161,6 @@ module _ {J S T P Q : Type 0} (log : J → Log) (plain : J → Q) (shows : S →
     share = w.share;
   }) a
 
-  -- nothing was done
-  pub went_still : (A : List Move → Type 0) (r : Rank J S T) (p : P) (r1 : Rank J S T) (p1 : P) → A [] → r1.book ≡ r.book
-      → r1.book.lost ≡ false → side log plain shows tells seats r1 p1 ≡ side log plain shows tells seats r p
-      → Went log plain shows tells seats A r p r1 p1
-  went_still A r p r1 p1 a book found same = record {
-    had = sym (ap (λ (b : _). b.lost) book) ∙ found;
-    moves = [];
-    are = a;
-    does = same;
-    kept = ap (λ (b : _). b.events.items) book ∙ kept_none r.options.trace r.book.events.items;
-    share = ap (λ (b : _). b.share) book;
-  }
-
   pub side_as : (r : Rank J S T) (p : P) (r1 : Rank J S T) (p1 : P) → r1.queue ≡ r.queue → log r1.job ≡ log r.job → r1.draws ≡ r.draws
       → (shows r1.seat).batches ≡ (shows r.seat).batches → tells p1 ≡ tells p
       → side log plain shows tells seats r1 p1 ≡ side log plain shows tells seats r p
@@ -370,6 +357,3 @@ handled_before some done e = before_service some done Handled (no_act Handled re
 
 pub stopped_before : (some : Bool) (done : Did) → with_service some done ≡ Stopped → done ≡ Stopped
 stopped_before some done e = before_service some done Stopped (no_act Stopped refl) e
-
-pub stopped_still : (some : Bool) (done : Did) → done ≡ Stopped → with_service some done ≡ Stopped
-stopped_still some done e = ap (with_service some) e

@@ -11,7 +11,7 @@ use Rattle.post_board.specs.Shown.{Strings}
 use Rattle.post_board.specs.Told.{Mail, vacant, asked, full, empty, Place, place, no_place, is_full}
 use Rattle.post_board.specs.Calls.{NoneOnTheWay}
 use Rattle.circle_run.specs.Balance as balance
-use Rattle.circle_run.specs.Balance.{Log, Balanced}
+use Rattle.circle_run.specs.Balance.{Balanced}
 use Rattle.circle_run.specs.Moves.{Move, served}
 use Rattle.circle_run.specs.Stages.{RankSide, Stage, no_side, rank_side, Plays, dealt_from, new_place, new_told, begun}
 use Rattle.circle_run.specs.Waiting.{batch_in, all_queued, all_mailed, all_logged, MovesAreBalanced, AllIsHandled}

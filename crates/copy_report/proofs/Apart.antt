@@ -1,12 +1,10 @@
 -- What stands apart: the sources of pairs, and where the paths within them go.
-use Rattle.std.proofs.Common.{◌≡◌, ◌⊎◌, inl, inr, ⊎_elim, ℕ, ◌≤◌, Bool, true, false, cond, ◌||◌, List, [], ◌∷◌}
-use Rattle.std.proofs.Common.{◌++◌, None, refl, ap, ◌∙◌, sym, subst, length-append}
+use Rattle.std.proofs.Common.{◌≡◌, ◌⊎◌, inl, inr, ⊎_elim, ℕ, Bool, true, false, cond, ◌||◌, List, [], ◌∷◌}
+use Rattle.std.proofs.Common.{◌++◌, None, refl, ap, ◌∙◌, sym, subst}
 use Rattle.std.proofs.lemmas.Bool.{false≢true, or_parts}
-use Rattle.std.specs.Prelude.{nat_eq, ◌==◌}
 use Rattle.std.specs.List.{AllByRecursion, list_any}
-use Rattle.std.specs.Cmp.Lexicographic.{pointwise, bytes_decides}
 use Rattle.path_text.specs.Path.{refusal, parent_of}
-use Rattle.path_text.specs.Order.{front, is_under, is_within}
+use Rattle.path_text.specs.Order.{is_under, is_within}
 use Rattle.path_text.specs.Graft.{grafted, below_of}
 use Rattle.path_text.proofs.Carried.{grafted_itself, parent_moves_too}
 use Rattle.path_text.proofs.Parents.{parent_under}

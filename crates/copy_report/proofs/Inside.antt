@@ -1,13 +1,10 @@
 -- What is in a root, as the walk says it, is at it or under it, as paths say it.
-use Rattle.std.proofs.Common.{◌≡◌, ⊎_elim, ℕ, ◌+◌, suc, true, List, [], ◌∷◌, ◌++◌, length, drop, cond, map, None, ap}
-use Rattle.std.proofs.Common.{sym, ◌∙◌, subst, arith, append-nil, length-append}
-use Rattle.std.specs.Prelude.{◌==◌}
+use Rattle.std.proofs.Common.{◌≡◌, ⊎_elim, ℕ, true, List, [], ◌∷◌, map, None}
+use Rattle.std.proofs.Common.{subst}
 use Rattle.std.specs.List.{AllByRecursion, list_any}
 use Rattle.std.proofs.lemmas.Bool.{or_left, or_right}
-use Rattle.std.proofs.lemmas.Bool.Decides.{nat_tests}
-use Rattle.std.proofs.lemmas.List.{append_cancel_right}
 use Rattle.path_text.specs.Path.{refusal}
-use Rattle.path_text.specs.Order.{front, is_within}
+use Rattle.path_text.specs.Order.{is_within}
 use Rattle.path_text.proofs.Fronts.{fronts_within}
 use Rattle.tree_copy.specs.declared.pairs.Pair.{Pair}
 use Rattle.tree_walk.specs.Roots.{is_in}

@@ -1,6 +1,6 @@
 -- Targets that were placed, and where they stand.
-use Rattle.std.proofs.Common.{◌≡◌, ◌⊎◌, inl, inr, ⊎_elim, ℕ, ◌+◌, ◌-◌, ◌^◌, ◌<◌, Bool, true, false, cond, ◌||◌, ◌&&◌, List, [], ◌∷◌, ◌++◌}
-use Rattle.std.proofs.Common.{map, length, get_or, min, Option, Some, None, IfSome, Result, Ok, Err, refl, ap, ◌∙◌, sym, subst, arith}
+use Rattle.std.proofs.Common.{◌≡◌, ◌⊎◌, inl, inr, ⊎_elim, ℕ, ◌+◌, ◌-◌, ◌^◌, ◌<◌, Bool, true, false, cond, ◌||◌, List}
+use Rattle.std.proofs.Common.{map, get_or, min, Option, Some, None, IfSome, Result, Ok, Err, refl, ap, ◌∙◌, sym, subst, arith}
 use Rattle.std.specs.FinMap.{get}
 use Rattle.std.specs.List.{All}
 use Rattle.path_text.specs.Path.{refusal, parent_of}
@@ -23,9 +23,6 @@ pub places : (sources : List (List ℕ)) (dest : List ℕ) (tree : Option Files)
 places sources dest None answer in_dir over_dir due told = record { in_dir = in_dir; over_dir = over_dir; due = due; told = tt }
 places sources dest (Some files) answer in_dir over_dir due told =
     record { in_dir = is_dir (get files dest); over_dir = is_dir (get files (parent_of dest)); due = told; told = (refl, refl) }
-
-or_right : (a b : Bool) → a ≡ false → (a || b) ≡ true → b ≡ true
-or_right a b off e = ap (λ c. c || b) (sym off) ∙ e
 
 -- a target stands in a directory
 stands : (files : Files) (in_dir over_dir : Bool) (dest target : List ℕ) → in_dir ≡ is_dir (get files dest) → over_dir ≡ is_dir (get files (parent_of dest)) →

@@ -6,12 +6,10 @@ use Rattle.flat_list.specs.Spelling.{max_entries}
 use Rattle.level_work.specs.declared.items.Fate.{Fate}
 use Rattle.tree_copy.specs.Copying.{SameButTargets, treated}
 use Rattle.tree_copy.specs.declared.pairs.Pair.{Pair}
-use Rattle.tool_words.specs.Asked.{CopyAsked, roots}
-use Rattle.run_report.specs.declared.stops.Stop.{Stop}
+use Rattle.tool_words.specs.Asked.{CopyAsked}
 use Rattle.run_report.specs.Sides.{Side, side_with}
 use Rattle.run_entries.specs.Entries.{Walked}
-use Rattle.run_entries.specs.Stopping.{StopsListing}
-use Rattle.copy_report.specs.Copying.{Copies, LeavesCopy, StopsCopy}
+use Rattle.copy_report.specs.Copying.{Copies, LeavesCopy}
 use Rattle.copy_report.specs.Placing.{Places, Surveys}
 
 -- the look at the destination, after which the targets were placed: it leaves the tree as it was
@@ -44,22 +42,6 @@ surveys_by asked before looked walked pairs entries l same w few = record {
 pub copies_by : (before walked after : Side) (pairs : List Pair) (entries : List Entry) (rows : List (List ℕ × Fate)) → walked.tree ≡ before.tree →
     Copies pairs entries rows walked after → Copies pairs entries rows (side_with before.tree walked.count) after
 copies_by before walked after pairs entries rows same c = subst (λ t. Copies pairs entries rows (side_with t walked.count) after) same c
-
--- the walk stopped
-pub stops_walking : (asked : CopyAsked) (before looked after : Side) (pairs : List Pair) (why : Stop) → Looked asked before looked pairs →
-    after.tree ≡ looked.tree →
-    looked.count ≤ after.count → StopsListing (roots asked.sources) looked after why → StopsCopy asked before after why
-stops_walking asked before looked after pairs why l same later stops = inr (
-  inr (record {
-    pairs = pairs;
-    places = l.places;
-    between = looked.count;
-    kept = l.kept;
-    later = later;
-    stops = subst (λ t. StopsListing (roots asked.sources) (side_with t looked.count) after why) l.same stops;
-  }),
-  same ∙ l.same,
-)
 
 -- the targets may have changed
 pub leaves_others : (asked : CopyAsked) (before walked after : Side) (pairs : List Pair) (entries : List Entry) → walked.tree ≡ before.tree →

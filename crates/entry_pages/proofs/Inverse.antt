@@ -1,13 +1,13 @@
 -- Packing and unpacking are inverse, and packing goes on behind.
 use Rattle.std.proofs.Common.{◌≡◌, ℕ, zero, suc, ◌+◌, ◌<◌, ◌≤◌, ◌%◌, true, false, cond, List, [], ◌∷◌, ◌++◌, length, take}
-use Rattle.std.proofs.Common.{drop, get_or, refl}
+use Rattle.std.proofs.Common.{drop, refl}
 use Rattle.std.proofs.Common.{ap, sym, Result, Ok, Err, ◌∙◌, arith, append_assoc}
 use Rattle.std.specs.Prelude.{nat_eq, ◌==◌, ◌&&◌}
 use Rattle.std.specs.List.{common_prefix_len, list_all, sum_by}
 use Rattle.std.proofs.lemmas.List.{take-append-drop, take-append-le, take_all, length-append, length-drop, drop-drop}
 use Rattle.std.proofs.Math.Seq.{take-append_seam, drop-append_seam}
 use Rattle.std.proofs.lemmas.List.{append-nil}
-use Rattle.std.proofs.lemmas.List.Sums.{common_prefix_len-le, common_prefix_len-drop_yes, common_prefix_len-drop_no, sum_by-cons}
+use Rattle.std.proofs.lemmas.List.Sums.{common_prefix_len-le, sum_by-cons}
 use Rattle.std.proofs.lemmas.Bool.Decides.{nat_tests}
 use Rattle.path_text.specs.Path.{refusal}
 use Rattle.entry_pages.specs.declared.entries.Entry.{Entry}
@@ -21,9 +21,6 @@ use Rattle.path_text.specs.declared.errors.OutOfMemory.{OutOfMemory}
 use Rattle.std.specs.Str.{IsUtf8}
 use Rattle.std.proofs.lemmas.Str.{is_utf8-from_IsUtf8}
 use Rattle.std.specs.Str.{is_utf8}
-
-abbrev eq_true : (x y : ℕ) → Type 0
-eq_true x y = nat_eq x y ≡ true
 
 pub same_of_eq : (x y : ℕ) → nat_eq x y ≡ true → x ≡ y
 same_of_eq x y e = grind (arith, e)
@@ -67,22 +64,6 @@ shared_short place before path =
       | true ↦ omega arith
       | false ↦ (common_prefix_len-le nat_eq before path).1
     ]
-
--- one place further, and the place that ends it
-pub prefix_yes : (a b : List ℕ) (i : ℕ) → i < length a → i < length b → get_or a i 0 ≡ get_or b i 0
-    → common_prefix_len nat_eq a b ≡ i + common_prefix_len nat_eq (drop i a) (drop i b)
-    → common_prefix_len nat_eq a b ≡ i + 1 + common_prefix_len nat_eq (drop (i + 1) a) (drop (i + 1) b)
-prefix_yes a b i la lb same h =
-    let yes : nat_eq (get_or a i 0) (get_or b i 0) ≡ true = grind (arith, same) in
-    let step = common_prefix_len-drop_yes nat_eq a b i 0 0 la lb yes in
-    omega (arith, h, step)
-
-pub prefix_no : (a b : List ℕ) (i : ℕ) → i < length a → i < length b → (get_or a i 0 ≡ get_or b i 0 → ⊥)
-    → common_prefix_len nat_eq a b ≡ i + common_prefix_len nat_eq (drop i a) (drop i b) → common_prefix_len nat_eq a b ≡ i
-prefix_no a b i la lb differ h =
-    let no : nat_eq (get_or a i 0) (get_or b i 0) ≡ false = grind (arith, differ) in
-    let step = common_prefix_len-drop_no nat_eq a b i 0 0 la lb no in
-    omega (arith, h, step)
 
 pub path_back : (place : ℕ) (before path more : List ℕ)
     → take (shared_by place before path) before ++ take (length (rest_by place before path)) (rest_by place before path ++ more) ≡ path

@@ -206,11 +206,6 @@ pub put_heads : {ss ss' : List Slim} {os os' : List Odd} {starts starts' ts ts' 
 put_heads {ss} {ss'} {os} {os'} {starts} {starts'} {ts} {ts'} {begins} {begins'} {h} k p =
     rw p.slims (rw p.odds (rw p.texts (heads_more ss os starts ts begins (heads_of ss os ts) h k p.valid)))
 
-pub slim_same : {ss ss' : List Slim} {os os' : List Odd} {starts starts' ts ts' begins begins' : List ℕ} → ss' ≡ ss → os' ≡ os →
-    starts' ≡ starts → ts' ≡ ts →
-    begins' ≡ begins → IsSlim ss os starts ts begins (heads_of ss os ts) → IsSlim ss' os' starts' ts' begins' (heads_of ss' os' ts')
-slim_same a b c d e k = rw a (rw b (rw c (rw d (rw e k))))
-
 -- where one begins
 behind_some : {A : Type 0} (f : Head → List A) (hs : List Head) (n : ℕ) →
     drop (sum_by (λ h. length (f h)) (take n hs)) (flat_map f hs) ≡ flat_map f (drop n hs)

@@ -8,7 +8,7 @@ use Rattle.std.specs.Prelude.{◌&&◌, not, nat_lt, Some, None, slice_get}
 use Rattle.std.proofs.lemmas.Option.{slice_get_within, get_or_from_slice_get}
 use Rattle.std.specs.Cmp.Lexicographic.{pointwise}
 use Rattle.std.proofs.Common.{get_or}
-use Rattle.std.proofs.lemmas.List.{drop_more, take_more, length-drop, length-append, drop_all}
+use Rattle.std.proofs.lemmas.List.{drop_more, take_more, length-drop, length-append}
 use Rattle.std.proofs.lemmas.List.Sums.{common_prefix_len-le}
 use Rattle.std.proofs.Math.Seq.{take-append_seam}
 use Rattle.std.proofs.lemmas.Bool.Decides.{nat_tests}
@@ -25,10 +25,6 @@ both_on x y xs ys e = ap (λ (t : Bool). cond t (1 + common_prefix_len nat_eq xs
 
 both_off : (x y : ℕ) (xs ys : List ℕ) → nat_eq x y ≡ false → common_prefix_len nat_eq (x ∷ xs) (y ∷ ys) ≡ 0
 both_off x y xs ys e = ap (λ (t : Bool). cond t (1 + common_prefix_len nat_eq xs ys) 0) e
-
-none_left : (p : List ℕ) → common_prefix_len nat_eq p [] ≡ 0
-none_left [] = refl
-none_left (x ∷ xs) = refl
 
 drop_suc : (n x : ℕ) (xs : List ℕ) → drop (1 + n) (x ∷ xs) ≡ drop n xs
 drop_suc n x xs = let one : 1 + n ≡ suc n = omega arith in ap (λ (k : ℕ). drop k (x ∷ xs)) one
@@ -126,11 +122,6 @@ place_at entries p k e lt =
     let yes : nat_lt k (length entries) ≡ true = grind (arith, nat_tests, lt) in
     ap (λ (n : ℕ). cond (nat_lt n (length entries)) (Some n) None) e ∙ ap (λ (t : Bool). cond t (Some k) None) yes
 
-no_place : (entries : List Entry) (p : Entry → Bool) → position_or_len p entries ≡ length entries → position p entries ≡ None
-no_place entries p e =
-    let no : nat_lt (length entries) (length entries) ≡ false = grind (arith, nat_tests) in
-    ap (λ (n : ℕ). cond (nat_lt n (length entries)) (Some n) None) e ∙ ap (λ (t : Bool). cond t (Some (length entries)) None) no
-
 blank : Entry
 blank = record { path = []; stat = None; mark = Fine; unnamed = 0; far = 0; target = None }
 
@@ -226,14 +217,6 @@ seek_step {hs} {bytes} {wanted} {k} {at} {same} {entries} next n h s sg e taken 
             none = omega (arith, s.none, one_here);
           };
     }
-
-pub seek_done : (hs : List Head) (bytes wanted : List ℕ) (k at same : ℕ) (entries : List Entry) → IsSeek hs bytes wanted k at same entries
-    → length hs ≤ k → k ≤ length hs → place_of wanted entries ≡ None
-seek_done hs bytes wanted k at same entries s le ge =
-    let past : drop k entries ≡ [] = drop_all k entries (omega (arith, le, s.many)) in
-    let zero_here : position_or_len (is_wanted wanted) (drop k entries) ≡ 0 = ap (position_or_len (is_wanted wanted)) past in
-    let is : position_or_len (is_wanted wanted) entries ≡ length entries = omega (arith, s.none, zero_here, le, ge, s.many) in
-    no_place entries (is_wanted wanted) is
 
 -- before what the path shares is known
 pub seek_room : {hs : List Head} {bytes wanted : List ℕ} {k at same : ℕ} {entries : List Entry} (h : Head) → IsSeek hs bytes wanted k at same entries →

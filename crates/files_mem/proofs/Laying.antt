@@ -4,7 +4,7 @@ use Rattle.std.proofs.Common.{Some, None, refl, ap, ◌∙◌, sym, is_some, ari
 use Rattle.std.proofs.lemmas.Bool.{false≢true}
 use Rattle.std.specs.Prelude.{Result, Ok, Err, OnOk, OnErr}
 use Rattle.std.proofs.lemmas.List.{take_more, take_all}
-use Rattle.std.specs.List.{list_any, remove}
+use Rattle.std.specs.List.{list_any}
 use Rattle.std.specs.FinMap.{get, empty, get-empty, get-retain_keys, same_map}
 use Rattle.path_text.specs.Order.{path_cmp, is_within}
 use Rattle.path_text.specs.Total.{path_cmp_total, path_cmp_same}
@@ -210,14 +210,3 @@ file_back bs new b base out cut less path now e v l = λ i. record {
   out = ap (λ (h : Lending). h.out) v i;
   cut = (l ∙ ap (λ (h : Lending). without_cut path h.cut) v) i;
 }
-
--- what came back first is laid, and is no longer waiting
-pub laid_first : (bs : List Back) (b : Back) (now next : Files) → 0 < length bs → b ≡ get_or bs 0 b → next ≡ laid b.tops b.files now
-    → laid_all (remove bs 0) next ≡ laid_all bs now
-laid_first [] b now next l is e = absurd (omega arith)
-laid_first (x ∷ bs) b now next l is e = ap (laid_all bs) (e ∙ ap (λ y. laid y.tops y.files now) is)
-
-pub laid_lost : (bs : List Back) (b : Back) (now next : Files) → 0 < length bs → b ≡ get_or bs 0 b
-    → laid b.tops b.files next ≡ laid b.tops b.files now → laid_all bs next ≡ laid_all bs now
-laid_lost [] b now next l is e = absurd (omega arith)
-laid_lost (x ∷ bs) b now next l is e = ap (laid_all bs) (ap (λ y. laid y.tops y.files next) (sym is) ∙ e ∙ ap (λ y. laid y.tops y.files now) is)

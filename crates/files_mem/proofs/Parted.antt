@@ -17,10 +17,6 @@ use Rattle.files_mem.specs.declared.errors.PutError.TheVariants.{Exists, NoParen
 use Rattle.files_mem.specs.Memory.{put_refusal_at}
 use Rattle.files_mem.proofs.Treed.{same_path, keeps_dir, elsewhere, off_here, file_there, no_dir, no_name, both_parts, not_root, can_write}
 
-or_true : (b : Bool) → (b || true) ≡ true
-or_true true = refl
-or_true false = refl
-
 -- what has to be true of the node at the path that is written
 record Here (tops : List (List ℕ)) (new : Files) (p : List ℕ) : Type 0 where
   inside : in_tops tops p ≡ true

@@ -8,7 +8,7 @@ ghost use Rattle.outside.specs.Spans.{are_cuts, pieces, cuts_in, zeros_of, joine
 ghost use Rattle.files_mem.specs.Spanned.{piece_of, held_by, blank, bytes_of_all};
 ghost use Rattle.std.specs.Option.{option_map};
 ghost use Rattle.outside.specs.Count.{RoseBy, capped};
-ghost use Rattle.outside.specs.Tree.{IsTree, dir, file, link, other, is_file, content, stat_of};
+ghost use Rattle.outside.specs.Tree.{IsTree, dir, file, link, other, is_file, content};
 ghost use Rattle.outside.specs.Lease.{CanLease, HaveParents, Joins, leased, kept, area_without, area_with, is_out, tops_of};
 ghost use Rattle.outside.specs.Laid.{laid};
 ghost use Rattle.outside.specs.Writes.{nothing_lent, under, is_open, make_refusal, write_refusal, remove_file_refusal, remove_dir_refusal};

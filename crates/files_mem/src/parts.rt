@@ -2,10 +2,8 @@
 ghost use Rattle.std.specs.Prelude.{◌≡◌, [], Some, None, IsTrue, IfErr, IsErrOf};
 ghost use Rattle.std.specs.Arc.{arc_value};
 ghost use Rattle.std.specs.FinMap as map;
-ghost use Rattle.std.specs.Option.{option_map};
 ghost use Rattle.outside.specs.Count.{RoseBy, capped};
 ghost use Rattle.outside.specs.Parts.{IsPart};
-ghost use Rattle.outside.specs.Tree.{stat_of};
 ghost use Rattle.outside.specs.Writes.{under, is_open, is_top, make_refusal, write_refusal, remove_file_refusal, remove_dir_refusal};
 ghost use Rattle.outside.specs.Writes.{empty_dir, new_file, new_link, written, HasPlace, Answers, may_make, may_change, may_empty};
 ghost use Rattle.files_mem.specs.Stored.{node_of};

@@ -45,9 +45,6 @@ pub record Follows (pieces left : List Piece) (text rest : List ℕ) : Type 0 wh
   pub onward : (k : ℕ) → matches pieces (drop k text) ≡ true → matches left (drop k rest) ≡ true
   pub back : matches left rest ≡ true → matches pieces text ≡ true
 
-pub follows_start : (pieces : List Piece) (text : List ℕ) → Follows pieces pieces text text
-follows_start pieces text = record { onward = λ k h. h; back = λ h. h }
-
 pub follows_one : (pieces : List Piece) (class : Class) (behind : List Piece) (text rest : List ℕ) → Follows pieces (OneOf class ∷ behind) text rest →
     takes_first class rest ≡ true → Follows pieces behind text (drop 1 rest)
 follows_one pieces class behind text rest f taken = record {
@@ -84,17 +81,6 @@ starred_at_star pieces behind text rest f =
     let second = some_rest_found (λ t. matches behind t) (drop (first.0) rest) (f.onward (first.0) first.1) in
     some_rest_at (λ t. matches behind t) (first.0 + second.0) rest (subst (λ t. matches behind t ≡ true) (drop-drop (second.0) (first.0) rest) second.1))
     (λ h. some_rest_at (λ t. matches pieces t) 0 text (f.back h))
-
--- where a front fails, the `*` takes one character more
-pub star_takes_one : (pieces : List Piece) (text rest : List ℕ) (c : ℕ) → text ≡ c ∷ rest → matches pieces text ≡ false →
-    matches (AnyText ∷ pieces) text ≡ matches (AnyText ∷ pieces) rest
-star_takes_one pieces text rest c e fails =
-    let fails' : matches pieces (c ∷ rest) ≡ false = subst (λ t. matches pieces t ≡ false) e fails in
-    subst (λ t. matches (AnyText ∷ pieces) t ≡ matches (AnyText ∷ pieces) rest) (sym e) (rw fails' refl)
-
-pub star_at_end : (pieces : List Piece) (text : List ℕ) → text ≡ [] → matches pieces text ≡ false → matches (AnyText ∷ pieces) text ≡ false
-star_at_end pieces text e fails =
-    subst (λ t. matches (AnyText ∷ pieces) t ≡ false) (sym e) (subst (λ t. matches pieces t ≡ false) e fails)
 
 pub star_whole : (pieces : List Piece) (text : List ℕ) → matches pieces text ≡ true → matches (AnyText ∷ pieces) text ≡ true
 star_whole pieces text h = some_rest_at (λ t. matches pieces t) 0 text h

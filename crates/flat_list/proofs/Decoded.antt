@@ -1,5 +1,5 @@
 -- The steps of reading a list file.
-use Rattle.std.proofs.Common.{◌≡◌, ℕ, suc, ◌+◌, ◌-◌, ◌<◌, ◌≤◌, Bool, true, false, cond, eqb, List, [], ◌∷◌, ◌++◌, length}
+use Rattle.std.proofs.Common.{◌≡◌, ℕ, suc, ◌+◌, ◌-◌, ◌<◌, ◌≤◌, Bool, true, false, cond, List, [], ◌∷◌, ◌++◌, length}
 use Rattle.std.proofs.Common.{take, Option, Some}
 use Rattle.std.proofs.Common.{None, length-append, refl, ap, sym, ◌∙◌, subst, arith, append_assoc}
 use Rattle.std.specs.List.Sorted.{IsStrictlySortedBy}
@@ -9,7 +9,6 @@ use Rattle.std.specs.declared.cmp.Ordering.{Ordering}
 use Rattle.std.specs.declared.cmp.Ordering.TheVariants.{Less, Equal, Greater}
 use Rattle.std.specs.Prelude.{slice_get, not, is_none, IfSome, ◌&&◌, ◌||◌, ◌==◌}
 use Rattle.std.specs.Option.{option_map}
-use Rattle.std.specs.Cmp.Lexicographic.{pointwise, bytes_decides}
 use Rattle.std.proofs.lemmas.Bool.{false≢true, and_parts}
 use Rattle.std.proofs.lemmas.List.{map-append, nil_from_length}
 use Rattle.path_text.specs.Order.{path_cmp}
@@ -186,10 +185,6 @@ read_utf8 f P Q None h p = tt
 read_utf8 f P Q (Some x) h p = h x p
 
 -- ---- the header
-
--- a text that is not another
-pub differs : (text this that : List ℕ) → true ≡ not (pointwise eqb text this) → this ≡ that → text ≡ that → ⊥
-differs text this that test is same = false≢true (ap not (sym ((bytes_decides text this).1 (same ∙ sym is))) ∙ sym test)
 
 no_list : IsList []
 no_list = record { count = omega arith; each = tt; ascend = sorted_none path_cmp }

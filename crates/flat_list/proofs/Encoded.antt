@@ -1,6 +1,6 @@
 -- The steps of writing a list file.
 use Rattle.std.proofs.Common.{◌≡◌, ℕ, ◌+◌, ◌<◌, ◌≤◌, ◌^◌, List, [], ◌∷◌, ◌++◌, length, take, ap, sym, ◌∙◌, subst}
-use Rattle.std.proofs.Common.{refl, append_assoc, append-nil, arith}
+use Rattle.std.proofs.Common.{refl, append_assoc, arith}
 use Rattle.std.specs.Prelude.{codes, Bool, true, false, ◌&&◌, ◌||◌, is_none}
 use Rattle.std.specs.Fmt.{decimal}
 use Rattle.std.specs.List.{AllByRecursion, flat_map}
@@ -23,9 +23,6 @@ use Rattle.flat_list.proofs.Dealt.{Turn, taken}
 pub record Written (text : List ℕ) (es : List Entry) (i : ℕ) : Type 0 where
   pub lines : text ≡ line (header_text Two) ++ flat_map (λ l. l) (entry_lines (take i es))
   pub each : AllByRecursion IsEntry (take i es)
-
-pub header_written : {text : List ℕ} {es : List Entry} → text ≡ line (header_text Two) → Written text es 0
-header_written {text} {es} is = record { lines = is ∙ sym (append-nil (line (header_text Two))); each = tt }
 
 -- the lines of one entry more
 text_more : (es : List Entry) (e : Entry) →

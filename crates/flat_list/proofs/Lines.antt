@@ -39,9 +39,6 @@ use Rattle.flat_list.proofs.Pieces.{IsLine, bare_is, and_both}
 
 -- ---- words
 
-bytes_same : (w : List ℕ) → bytes_eq w w ≡ true
-bytes_same w = (bytes_decides w w).1 refl
-
 pub record IsTime (word : List ℕ) (time : Option ℕ) : Type 0 where
   pub text : word ≡ time_word time
   pub small : IfSome time (λ seconds. seconds < 2 ^ 64)

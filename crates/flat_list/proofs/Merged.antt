@@ -31,22 +31,9 @@ module _ {A : Type 0} where
       IsPermutation-trans _ _ _ (passed_by all x (flat xs))
       (IsPermutation-trans _ _ _ (IsPermutation-append_right x _ _ rest) (passed_by x all' (flat (set xs k s'))))
 
-  -- one element more behind both
-  pub one_more : (from xs ys zs : List A) (e : A) → IsPermutation (from ++ xs) (ys ++ zs) →
-      IsPermutation (from ++ (xs ++ e ∷ [])) (ys ++ (zs ++ e ∷ []))
-  one_more from xs ys zs e p =
-      let more = IsPermutation-append_left (e ∷ []) _ _ p in
-      subst (λ l. IsPermutation l (ys ++ (zs ++ e ∷ []))) (append_assoc from xs (e ∷ []))
-      (subst (IsPermutation ((from ++ xs) ++ e ∷ [])) (append_assoc ys zs (e ∷ [])) more)
-
   -- a list more behind the lists
   pub flat_more : (xs : List (List A)) (x : List A) → flat (xs ++ x ∷ []) ≡ flat xs ++ x
   flat_more xs x = flat_map-append (λ y. y) xs (x ∷ []) ∙ ap (λ y. flat xs ++ y) (append-nil x)
-
-  pub run_more : (runs runs' : List (List A)) (run from : List A) → runs' ≡ runs ++ run ∷ [] → IsPermutation from run →
-      IsPermutation (flat runs ++ from) (flat runs')
-  run_more runs runs' run from more p =
-      subst (IsPermutation (flat runs ++ from)) (sym (ap flat more ∙ flat_more runs run)) (IsPermutation-append_right (flat runs) _ _ p)
 
   -- what a list has moves behind, and what was read of others did before
   pub log_more : {L : Type 0} (f : L → List A) (logs : List L) (log : L) (all all' : List A) → IsPermutation (flat_map f logs) all →

@@ -1,12 +1,9 @@
 -- A cursor that passes an entry takes a turn of a loop over its list.
-use Rattle.std.proofs.Common.{◌≡◌, ℕ, ◌+◌, ◌-◌, ◌<◌, ◌≤◌, inl, inr, Bool, true, false, List, length, refl, ap, ap₂, sym, subst}
-use Rattle.std.proofs.Common.{◌∙◌, arith, get_or}
+use Rattle.std.proofs.Common.{◌≡◌, ℕ, ◌+◌, ◌-◌, ◌<◌, ◌≤◌, Bool, true, false, List, length, refl, ap, sym, subst}
+use Rattle.std.proofs.Common.{◌∙◌, arith}
 use Rattle.std.specs.Prelude.{Some, slice_get, nat_lt, if◌then◌else◌}
-use Rattle.std.specs.Ordering.{is_lt}
-use Rattle.std.proofs.lemmas.Bool.{cases_lt}
 use Rattle.std.proofs.lemmas.Bool.Decides.{nat_tests}
-use Rattle.std.proofs.lemmas.Option.{slice_get-get_or, get_or_from_slice_get, slice_get_within}
-use Rattle.path_text.specs.Order.{path_cmp}
+use Rattle.std.proofs.lemmas.Option.{get_or_from_slice_get, slice_get_within}
 use Rattle.entry_pages.specs.declared.entries.Entry.{Entry}
 use Rattle.flat_list.proofs.Dealt.{Turn}
 
@@ -62,36 +59,6 @@ pub no_more : (xs : List Entry) (old : List Entry × ℕ) (more : Bool) → old.
 no_more xs old more is answer none =
     let no : nat_lt old.1 (length xs) ≡ false = ap (λ (l : List Entry). nat_lt old.1 (length l)) (sym is) ∙ sym answer ∙ none in
     grind (arith, nat_tests, no)
-
--- the first so many ascend
-abbrev pub UpTo : List Entry → ℕ → Type 0
-UpTo xs n = (k : ℕ) (d : Entry) → k + 1 < n → is_lt (path_cmp (get_or xs (k + 1) d).path (get_or xs k d).path) ≡ false
-
-any_default : {xs : List Entry} {n : ℕ} {e : Entry} (d : Entry) → Turn xs n e → get_or xs n d ≡ e
-any_default {xs} {n} {e} d t = get_or_from_slice_get xs n e d (slice_get-get_or xs n e t.within ∙ ap Some (sym t.item))
-
-pub up_more : {xs : List Entry} {a b : ℕ} {x y : Entry} → UpTo xs a → Turn xs a x → Turn xs b y → a ≡ b + 1
-    → is_lt (path_cmp x.path y.path) ≡ false → UpTo xs (a + 1)
-up_more {xs} {a} {b} {x} {y} up s t next not_less k d lt = elim (cases_lt (k + 1) a) [
-  | inl old ↦ up k d old
-  | inr new ↦
-      let here : k + 1 ≡ a = omega (arith, lt, new) in
-      let there : k ≡ b = omega (arith, here, next) in
-      ap₂ (λ (x y : Entry). is_lt (path_cmp x.path y.path)) (ap (λ (n : ℕ). get_or xs n d) here ∙ any_default d s)
-      (ap (λ (n : ℕ). get_or xs n d) there ∙ any_default d t)
-      ∙ not_less
-]
-
-pub more_in : (xs : List Entry) (old : List Entry × ℕ) (more : Bool) → old.0 ≡ xs → old.1 < length xs → more ≡ nat_lt old.1 (length old.0) →
-    more ≡ true
-more_in xs old more is lt answer =
-    let yes : nat_lt old.1 (length xs) ≡ true = grind (arith, nat_tests, lt) in
-    answer ∙ ap (λ (l : List Entry). nat_lt old.1 (length l)) is ∙ yes
-
--- one step, or none
-pub few_more : (old new : List Entry × ℕ) (more : Bool) → new ≡ (old.0, if more then old.1 + 1 else old.1) → new.1 ≤ old.1 + 1
-few_more old new true is = omega (arith, ap (λ (v : List Entry × ℕ). v.1) is)
-few_more old new false is = omega (arith, ap (λ (v : List Entry × ℕ). v.1) is)
 
 pub step_more : (old new : List Entry × ℕ) (more : Bool) → new ≡ (old.0, if more then old.1 + 1 else old.1) → more ≡ true → new.1 ≡ old.1 + 1
 step_more old new more is so = ap (λ (v : List Entry × ℕ). v.1) is ∙ ap (λ (m : Bool). if m then old.1 + 1 else old.1) so

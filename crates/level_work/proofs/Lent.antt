@@ -1,5 +1,5 @@
 -- A share that is leased, worked on and given back.
-use Rattle.std.proofs.Common.{◌≡◌, ◌≢◌, ℕ, zero, suc, ◌+◌, ◌<◌, Bool, true, false, not, ◌&&◌, List, [], ◌∷◌, ◌++◌, length, Option, Some, None, IfSome}
+use Rattle.std.proofs.Common.{◌≡◌, ◌≢◌, ℕ, zero, suc, ◌+◌, ◌<◌, Bool, true, false, not, ◌&&◌, List, [], ◌∷◌, ◌++◌, length, Option, Some}
 use Rattle.std.proofs.Common.{refl, ap, ◌∙◌, sym, subst, arith, nat_eq, eqb, length-append, slice_get}
 use Rattle.std.specs.Prelude.{IsTrue}
 use Rattle.std.proofs.lemmas.Bool.{false≢true}
@@ -7,15 +7,14 @@ use Rattle.std.proofs.lemmas.Bool.Decides.{nat_tests}
 use Rattle.std.proofs.lemmas.Option.{slice_get_within, get_or_from_slice_get}
 use Rattle.std.proofs.lemmas.List.Folds.{list_any_at}
 use Rattle.std.specs.List.{list_any}
-use Rattle.std.specs.FinMap.{get}
 use Rattle.std.specs.Cmp.Lexicographic.{pointwise, bytes_decides}
 use Rattle.path_text.specs.Order.{is_within}
-use Rattle.path_text.specs.Path.{level_of, parent_of}
-use Rattle.outside.specs.Tree.{Files, is_dir, is_root}
+use Rattle.path_text.specs.Path.{level_of}
+use Rattle.outside.specs.Tree.{is_root}
 use Rattle.outside.specs.Writes.{Area, nothing_lent, under, is_top, is_open}
-use Rattle.outside.specs.Lease.{in_tops, same_tops, CanLease, HaveParents}
+use Rattle.outside.specs.Lease.{in_tops, same_tops, CanLease}
 use Rattle.level_work.specs.Private.Lots.{IsAt, AreApart, Ready}
-use Rattle.level_work.specs.Private.Shares.{ArePaths, AreFirstPaths, IsShare, StandInDirs}
+use Rattle.level_work.specs.Private.Shares.{ArePaths, AreFirstPaths, IsShare}
 use Rattle.level_work.specs.declared.items.Item.{Item}
 use Rattle.level_work.specs.declared.lots.Lot.{Lot}
 use Rattle.path_text.proofs.Within.{itself}
@@ -78,10 +77,6 @@ module _ (items : List Item) (places : List ℕ) (tops : List (List ℕ)) (s : I
       clash : (i j : ℕ) (p : List ℕ) → slice_get tops i ≡ Some p → slice_get tops j ≡ Some p → i ≢ j → ⊥
       clash i j p h k off = let u = item_of i p h in let v = item_of j p k in
           false≢true (sym (s.apart i j u.0 v.0 off u.1.0 v.1.0) ∙ ap (λ r. is_within r v.0.path) (u.1.1 ∙ sym v.1.1) ∙ itself v.0.path)
-
-  pub have_parents : (t : Option Files) → IfSome t (StandInDirs items places) → IfSome t (HaveParents tops)
-  have_parents None h = tt
-  have_parents (Some files) h = λ i p e. let u = item_of i p e in ap (λ r. is_dir (get files (parent_of r))) (sym u.1.1) ∙ h i u.0 u.1.0
 
   in_any : (f : List ℕ → Bool) (j : ℕ) (x : Item) → IsAt items places j x → f x.path ≡ true → list_any f tops ≡ true
   in_any f j x at e =

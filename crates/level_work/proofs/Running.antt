@@ -233,9 +233,6 @@ ran_lost deed o top turn level items fates was now next r s =
     both_told (Sofar deed o (mark_at o top turn) items fates) (SameButLevel level items) (SameButItems items) was now next r.tells
     (λ a b c v w q off. w q (λ k x at lev. is_no_item items q k x off at) ∙ v.pending q (λ k x at done. is_no_item items q k x off at)) r.sofar s
 
-pub untouched : (items : List Item) (t : Option Files) → IfSome t (λ before. IfSome t (SameButItems items before))
-untouched items t = same_told (SameButItems items) t (λ a q off. refl)
-
 pub on_err : {T E : Type 0} (r : Result T E) (X : Type 0) → X → OnErr r X
 on_err (Ok v) X x = tt
 on_err (Err e) X x = x

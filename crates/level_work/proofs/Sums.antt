@@ -15,9 +15,6 @@ others : {Y : Type 0} → List Y → List Y
 others [] = []
 others (y ∷ ys) = ys
 
-abbrev failed_in : {A P : Type 0} → Lot A P → ℕ
-failed_in l = count_by is_failed l.fates.items
-
 pub same_failed : {A P : Type 0} (xs ys : List (Lot A P)) → map (λ (l : Lot A P). l.fates) ys ≡ map (λ (l : Lot A P). l.fates) xs
     → sum_by (λ (l : Lot A P). count_by is_failed l.fates.items) ys ≡ sum_by (λ (l : Lot A P). count_by is_failed l.fates.items) xs
 unfolding first others

@@ -132,9 +132,6 @@ module _ {A P D : Type 0} {plain : A → D} {count : A → ℕ} {deed : D → De
   of_first : Ran (deed (shown plain count lots some alike).0) o top turn items fates t0 t
   of_first = v.ran (shown plain count lots some alike).0 (shown plain count lots some alike).1
 
-  pub turned_some : 0 < length now
-  turned_some = omega (arith, some, same_length plain count lots now v.actors)
-
   pub turned_len : length fates ≡ length items
   turned_len = of_first.len
 

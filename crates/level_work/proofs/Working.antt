@@ -1,5 +1,5 @@
 -- The work on a share, item by item.
-use Rattle.std.proofs.Common.{◌≡◌, ◌≢◌, ◌⊎◌, inl, inr, ℕ, zero, suc, ◌+◌, ◌<◌, ◌≤◌, true, false, cond, List, [], ◌∷◌, ◌++◌, length, Option, Some}
+use Rattle.std.proofs.Common.{◌≡◌, ◌≢◌, ◌⊎◌, inl, inr, ℕ, zero, suc, ◌+◌, ◌<◌, true, false, cond, List, [], ◌∷◌, ◌++◌, length, Option, Some}
 use Rattle.std.proofs.Common.{None, IfSome, Ok, refl, ap, ◌∙◌, sym, subst, arith, length-append, is_some, slice_get}
 use Rattle.std.proofs.lemmas.Bool.{false≢true}
 use Rattle.std.proofs.lemmas.Option.{slice_get_within}
@@ -171,9 +171,6 @@ module _ {A P D : Type 0} (tree : Option P → Option Files) (area : Option P �
       named : (j : ℕ) (f : Fate) → (slice_get mid.fates.items j ≡ Some f) ⊎ ((j ≡ length mid.fates.items) × (s.now ≡ f)) → f ≢ fate.ParentFailed
       named j f (inl old) = u.named j f old
       named j f (inr new) = subst (λ g. g ≢ fate.ParentFailed) new.1 s.named
-
-  first_of_all : (items : List Item) (n m : ℕ) (places : List ℕ) (a b : Files) → n ≤ m → SameButFirst n items places a b → SameButFirst m items places a b
-  first_of_all items n m places a b l s q off = s q (λ j x k is. off j x (omega (arith, k, l)) is)
 
   pub finished : (items : List Item) (n : ℕ) (lot lot' : Lot A P) → n ≡ length lot.places.items
       → Upto tree area part_count plain count deed n items lot lot' → HasWorked tree area part_count plain count deed items lot lot'

@@ -37,10 +37,6 @@ cut_from start text (end ∷ ends) (suc k) f a h = cut_from end text ends k (λ 
 pub cut_at : (text ends : List ℕ) (k : ℕ) → AreEndsFrom 0 text ends → k < length ends → IsCut text (slice_index (0 ∷ ends) k) (slice_index ends k)
 cut_at text ends k a h = cut_from 0 text ends k (λ z. absurd (omega arith)) a h
 
-ends_within : (start : ℕ) (text ends : List ℕ) → AreEndsFrom start text ends → start ≤ length text
-ends_within start text [] a = omega (arith, a)
-ends_within start text (end ∷ ends) a = omega (arith, a.0, a.1.0)
-
 -- what stands in the text stays where more follows
 same_range : (text name : List ℕ) (start end : ℕ) → start ≤ length text → end ≤ length text →
     slice_range (text ++ name) start end ≡ slice_range text start end

@@ -1,5 +1,5 @@
 -- A file is saved step by step.
-use Rattle.std.proofs.Common.{◌≡◌, ℕ, ◌+◌, ◌≤◌, Bool, true, false, cond, ◌&&◌, ◌||◌, List, [], ◌∷◌, ◌++◌, length, take, drop, Option, Some, None}
+use Rattle.std.proofs.Common.{◌≡◌, ℕ, ◌+◌, ◌≤◌, Bool, true, false, cond, ◌&&◌, List, [], ◌∷◌, ◌++◌, length, take, drop, Option, Some, None}
 use Rattle.std.proofs.Common.{IfSome, refl, ap, ◌∙◌, sym, subst, arith, append-nil, nat_eq, ◌≢◌, not}
 use Rattle.std.specs.Prelude.{◌==◌}
 use Rattle.std.proofs.lemmas.Bool.{false≢true}
@@ -17,7 +17,7 @@ use Rattle.path_text.proofs.Within.{not_root, root_is}
 use Rattle.path_text.specs.Total.{path_cmp_total, path_cmp_ties, path_cmp_same}
 use Rattle.outside.specs.Tree.{Files, Node, file, is_file, content}
 use Rattle.outside.specs.Writes.{SameBut, Answers, written, new_file, spliced, time_of}
-use Rattle.outside.specs.Whole.{Holds, IsOld, Saves, can_put, can_save, save_error}
+use Rattle.outside.specs.Whole.{Holds, Saves, can_put, can_save}
 use Rattle.outside.specs.declared.plots.WriteError.{WriteError}
 use Rattle.outside.specs.declared.plots.WriteError.TheVariants as write
 use Rattle.outside.specs.declared.saving.SaveError.{SaveError}
@@ -62,17 +62,6 @@ refused p r before after write.WrongKind new h = subst (λ o. IfSome o (SameBut 
 refused p r before after write.NotEmpty new h = subst (λ o. IfSome o (SameBut p before)) (sym h.1) (λ q off. refl)
 refused p r before after write.Absent new h = subst (λ o. IfSome o (SameBut p before)) (sym h.1) (λ q off. refl)
 
--- where nothing stands in its way, a call gives no named refusal
-pub none_named : (p : List ℕ) (before after : Files) (x : WriteError) (new : Option Files) → Answers p None before after (Err x) new
-    → save_error x ≡ e.NoPlace → false ≡ true
-none_named p before after write.Failed new h s = cc
-none_named p before after write.OutOfMemory new h s = cc
-none_named p before after write.Exists new h s = cc
-none_named p before after write.NoParent new h s = cc
-none_named p before after write.WrongKind new h s = cc
-none_named p before after write.NotEmpty new h s = cc
-none_named p before after write.Absent new h s = cc
-
 -- the same where the tree may not be told
 
 pub made : (R : Files → Type 0) (was now : Option Files) (p : List ℕ) (n : Node)
@@ -113,15 +102,6 @@ wrote_more R None mid now p bytes piece at n l is t h w = tt
 wrote_more R (Some before) None now p bytes piece at n l is t h w = absurd (false≢true t)
 wrote_more R (Some before) (Some files) now p bytes piece at n l is t h w =
     subst (λ o. IfSome o (Holds p (Some (new_file (take (at + n) bytes))) before)) (sym w.1) (wrote_here before files p bytes piece at n l is h)
-
--- nothing is there, or the file that was is removed
-pub no_file : (node : Option Node) → IsOld false node → node ≡ None
-no_file None o = refl
-no_file (Some n) o = absurd (false≢true (sym (ap (λ b. false || b) o.is_old) ∙ o.no_other))
-
-pub free_already : (was : Option Files) (p : List ℕ) → IfSome was (λ files. IsOld false (get files p)) → IfSome was (λ files. IfSome was (Holds p None files))
-free_already None p o = tt
-free_already (Some files) p o = record { others = λ q off. refl; here = no_file (get files p) o }
 
 -- all the steps together
 

@@ -58,19 +58,6 @@ before_all-longer [] r y e = absurd (false≢true e)
 before_all-longer (a ∷ f) r [] e = absurd (false≢true e)
 before_all-longer (a ∷ f) r (b ∷ y) e = goes_on (nat_lt (byte_rank a) (byte_rank b)) (before_all f y) (before_all (f ++ r) y) (before_all-longer f r y) a b e
 
-later : (a b c : ℕ) (p q : Bool) (rest : Ordering) → (nat_lt (byte_rank a) (byte_rank b) || (a == b && p)) ≡ true →
-    ordering_then (nat_cmp (byte_rank b) (byte_rank c)) rest ≡ Less → (p ≡ true → rest ≡ Less → q ≡ true) →
-    (nat_lt (byte_rank a) (byte_rank c) || (a == c && q)) ≡ true
-later a b c p q rest e l h = grind (arith, nat_tests)
-
--- and before what comes after y
-pub before_all-later : (f y z : List ℕ) → before_all f y ≡ true → path_cmp y z ≡ Less → before_all f z ≡ true
-before_all-later [] y z e l = absurd (false≢true e)
-before_all-later (a ∷ f) [] z e l = absurd (false≢true e)
-before_all-later (a ∷ f) (b ∷ y) [] e l = cc
-before_all-later (a ∷ f) (b ∷ y) (c ∷ z) e l =
-    later a b c (before_all f y) (before_all f z) (path_cmp y z) e l (λ p q. before_all-later f y z p q)
-
 same_byte : (a : ℕ) (c p : Bool) → p ≡ true → (c || (a == a && p)) ≡ true
 same_byte a true p e = refl
 same_byte a false p e = grind (arith, nat_tests)

@@ -214,8 +214,3 @@ pub nul_behind : (s : List ℕ) (at : ℕ) → at < length s → begins_nul (dro
 nul_behind s at h e =
     let d : drop at s ≡ get_or s at 0 ∷ drop (at + 1) s = rw (add-one, drop-cons s at 0) in
     ap tells_nul d ∙ ap (λ t. t || tells_nul (drop (at + 1) s)) (ap begins_nul (sym d) ∙ e)
-
-pub nul_here : (s : List ℕ) (at : ℕ) → at < length s → begins_nul (drop at s) ≡ true → tells_nul (drop at s) ≡ true
-nul_here s at h e =
-    let d : drop at s ≡ get_or s at 0 ∷ drop (at + 1) s = rw (add-one, drop-cons s at 0) in
-    ap tells_nul d ∙ ap (λ t. t || tells_nul (drop (at + 1) s)) (ap begins_nul (sym d) ∙ e)

@@ -24,7 +24,7 @@ use Rattle.post_board.specs.declared.board_views.View.{View}
 use Rattle.atomic_table.specs.Table.{rest}
 use Rattle.std.proofs.lemmas.List.Sums.{sum_by-set, sum_by-cons}
 use Rattle.std.specs.List.{Contains}
-use Rattle.std.proofs.lemmas.List.{append-nil, map-append}
+use Rattle.std.proofs.lemmas.List.{map-append}
 use Rattle.std.proofs.lemmas.List.Elements.{All-nil, All-cons, All-append}
 use Rattle.post_board.proofs.MailboxLemmas.{name, one_word}
 use mathlib.Core.Logic.{dite}
@@ -128,29 +128,6 @@ pub record Keeps (s s' : BoardSeat) (k : Known) : Type 0 where
   pub own : k.own ≡ own_by s'.asked
   pub ended : k.ended ≡ s'.ended
 
--- such a seat is still one of the board's
-pub still : (b : Board) (s s' : BoardSeat) (k : Known) → IsSeat b s → Keeps s s' k → IsSeat b s'
-still b s s' k S K =
-    record {
-      table = K.table ∙ S.table;
-      number = ap (λ m. m.0.own.number) K.me ∙ K.same_number ∙ S.number ∙ sym K.number;
-      sized = ap (λ m. m.0.own.n) K.me ∙ K.same_size ∙ S.sized;
-      n = K.size ∙ S.n;
-      inside = subst (λ (j : ℕ). j < b.n) (sym K.number) S.inside;
-      live = ap (λ m. m.0.live) K.me ∙ S.live;
-      alone = ap (λ m. m.0.kept) K.me ∙ S.alone;
-      wide = ap (λ m. length m.0.own.serves) K.me ∙ ap length K.same_serves ∙ S.wide;
-      colour = ap (λ m. m.0.own.colour) K.me ∙ K.colour;
-      here = ap (λ m. m.0.own.here) K.me ∙ K.here;
-      own = ap (λ m. m.0.own.own) K.me ∙ K.own;
-      ended = ap (λ m. m.0.own.ended) K.me ∙ K.ended;
-      room = subst (λ h. b.n ≤ deque_capacity h) (sym K.held) S.room;
-      count = ap (λ h. length h.items) K.held ∙ S.count ∙ ap (sum_by one_if) (sym K.same_serves) ∙ ap (λ m. sum_by one_if m.0.own.serves) (sym K.me);
-      held = ap (λ m. m.1) K.me ∙ S.held ∙ ap (λ h. map (λ r. (r, None)) h.items) (sym K.held);
-      holds = λ r e. subst (λ h. Contains h.items r) (sym K.held)
-          (S.holds r (ap (λ xs. get_or xs r false) (sym K.same_serves) ∙ ap (λ m. get_or m.0.own.serves r false) (sym K.me) ∙ e));
-    }
-
 -- the first k ranks were looked at, and none asked this one
 pub record Looked (me k : ℕ) (before now : SeatState) : Type 0 where
   pub steps : List Reading
@@ -164,13 +141,6 @@ others_more me r ne = ap (others_below me) (let e : r + 1 ≡ suc r = omega arit
 others_same : (me r : ℕ) → r ≡ me → others_below me (r + 1) ≡ others_below me r
 others_same me r e = ap (others_below me) (let p : r + 1 ≡ suc r = omega arith in p)
     ∙ ap (λ (b : Bool). cond b (others_below me r) (others_below me r ++ (r + 1) ∷ [])) (eq-eqb r me e)
-
-pub looked_none : (me : ℕ) (m : SeatState) → Looked me 0 m m
-looked_none me m = record {
-  steps = [];
-  none = (refl, All-nil (λ x. (x.left ≡ x.found) × (sign x.found ≢ asking me)));
-  is = ap (λ (rs : List Reading). knowing m (record m.0.own { readings = rs })) (sym (append-nil m.0.own.readings));
-}
 
 pub looked_more : (me r found : ℕ) (before now after : SeatState) → r ≢ me → found ≢ word_of (asking me)
     → after ≡ knowing now (noted now.0.own (r + 1) found found) → Looked me r before now → Looked me (r + 1) before after

@@ -12,7 +12,7 @@ use Rattle.ring_core.proofs.PictureLemmas.{put_here, put_all}
 use Rattle.post_board.specs.Words.{has_bit, Sign, resting, asking, serving, full, fetching, emptied, sign, word_of}
 use Rattle.post_board.proofs.WordLemmas.{sign_of_word}
 use Rattle.post_board.specs.BoardRule.{Parcel, TableState, RingFacts, Rule, serves, signs_in, slots_in, token_in, halt_in, stops_in}
-use Rattle.post_board.specs.BoardRule.{OwnFits, OpenFits, Away, asked_of}
+use Rattle.post_board.specs.BoardRule.{OwnFits, OpenFits, asked_of}
 use Rattle.post_board.specs.BoardSteps.{Going, SeatState, noted, knows, after_rest, after_look, learn}
 use Rattle.post_board.specs.LateSteps.{SetHaltTells, halt_seen, LoadHaltTells, StopTells, stop_seen, after_stops, LoadStopsTells, WithdrawTells}
 use Rattle.post_board.specs.declared.board_views.Known.{Known}

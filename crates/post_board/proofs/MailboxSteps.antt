@@ -11,8 +11,8 @@ use Rattle.ring_core.specs.declared.states.Colour.{Colour}
 use Rattle.post_board.specs.Shown.{Strings}
 use Rattle.post_board.specs.Words.{Sign, resting, asking, serving, full, fetching, emptied, sign, word_of}
 use Rattle.post_board.proofs.WordLemmas.{sign_of_word}
-use Rattle.post_board.specs.BoardRule.{Parcel, TableState, MailboxFacts, RingFacts, HaltFacts, Moment, Rule, serves, given, taken, signs_in, slots_in}
-use Rattle.post_board.specs.BoardRule.{token_in, halt_in, stops_in, OwnFits, SlotFits, Away, asked_of, mail_of}
+use Rattle.post_board.specs.BoardRule.{Parcel, MailboxFacts, RingFacts, HaltFacts, Rule, serves, signs_in, slots_in}
+use Rattle.post_board.specs.BoardRule.{token_in, halt_in, stops_in, OwnFits, SlotFits, asked_of, mail_of}
 use Rattle.post_board.specs.BoardSteps.{Going, SeatState, noted, knows, knowing, after_ask, AskTells, learn, after_look, LookTells, after_taking}
 use Rattle.post_board.specs.BoardSteps.{TakeUpTells, ScanTells, after_post, front, GiveTells, after_refusing, RefuseTells, after_fetch, FetchTells}
 use Rattle.post_board.specs.BoardSteps.{after_rest, RestTells, RestEmptyTells}

@@ -1,10 +1,10 @@
 -- What seats of a plain board know of the halt and of the stops stays so, where a deed replaces ranks.
-use Rattle.std.proofs.Common.{◌≡◌, ℕ, ◌<◌, ◌≢◌, ◌⊎◌, ⊎_elim, inr, refl, sym, subst, ap, ◌∙◌, arith, Bool, true, false, List, [], ◌∷◌, length, map, set, get_or}
+use Rattle.std.proofs.Common.{◌≡◌, ℕ, ◌<◌, ◌≢◌, ◌⊎◌, ⊎_elim, inr, refl, sym, subst, ap, ◌∙◌, arith, Bool, true, false, List, length, map, set, get_or}
 use Rattle.std.proofs.Common.{get_or-set_same, get_or-set_other, length-set, Option, Some, None}
 use Rattle.std.specs.List.{Contains}
 use Rattle.std.proofs.lemmas.List.{length-map, get_or_default, get_or_past}
 use Rattle.std.proofs.lemmas.List.Elements.{Contains-get_or}
-use Rattle.std.proofs.lemmas.List.Sorted.{Contains-permutation, IsPermutation-sym, length_permutation}
+use Rattle.std.proofs.lemmas.List.Sorted.{Contains-permutation, length_permutation}
 use mathlib.Core.Logic.{dite}
 use native.Mathlib.Decide.{ℕ_discrete, dec_lt}
 use Rattle.ring_core.specs.declared.states.Token.{Token}

@@ -1,5 +1,5 @@
 -- What taking up, giving and refusing do to a plain board.
-use Rattle.std.proofs.Common.{◌≡◌, ℕ, ◌+◌, ◌<◌, ◌≢◌, refl, sym, subst, ap, ◌∙◌, arith, Bool, true, false, cond, nat_lt}
+use Rattle.std.proofs.Common.{◌≡◌, ℕ, ◌<◌, ◌≢◌, refl, sym, subst, ap, ◌∙◌, arith, Bool, true, false, cond, nat_lt}
 use Rattle.std.proofs.Common.{List, length, map, replicate, set, get_or, get_or-set_same, get_or-set_other, length-set, Option, Some, None}
 use Rattle.std.proofs.lemmas.Bool.Decides.{nat_tests}
 use mathlib.Core.Logic.{dite}
@@ -13,15 +13,13 @@ use Rattle.std.proofs.Math.Seq.{map-set_same}
 use Rattle.post_board.specs.Told.{Mail, asked, full, empty, Place, Told, place, put_place, Sound}
 use Rattle.post_board.specs.Deeds.{give, refuse, Legal, told_after}
 use Rattle.post_board.proofs.DeedLemmas.{sound_after}
-use Rattle.post_board.specs.Plain.{mail_of, place_of, told_of, no_rank, plain, wants, shown_by, OwnFits, Match, Fits, IsSeat}
-use Rattle.post_board.specs.Calls.{NoneAsks}
+use Rattle.post_board.specs.Plain.{mail_of, place_of, told_of, no_rank, plain, wants, OwnFits, Match, Fits, IsSeat}
 use Rattle.post_board.specs.declared.plain_ranks.PlainMailbox.{PlainMailbox}
 use Rattle.post_board.specs.declared.plain_ranks.PlainMailbox.TheVariants.{Rest, Wants, Served, Holds, Refused}
 use Rattle.post_board.specs.declared.plain_ranks.PlainRank.{PlainRank}
 use Rattle.post_board.specs.declared.plain_seats.PlainSeat.{PlainSeat}
 use Rattle.post_board.proofs.PlainFrames.{After, told_put, told_place, Alike, frame, reserve}
 use Rattle.post_board.proofs.PlainDeeds.{acts, alike_same, inside, matching, mine, unlike}
-use Rattle.post_board.proofs.PlainToken.{not_true}
 
 -- no seat serves itself
 apart : (a : Option ℕ) (me to : ℕ) → ((v : ℕ) → a ≡ Some v → v ≢ me) → to ≡ me → OwnFits a (Served me) → ⊥
@@ -232,21 +230,3 @@ serving_mail (Wants k) me t w = (let e : k ≡ me = asked_same k me t in absurd 
 serving_mail (Served k) me t w = ap Served (asked_same k me t)
 serving_mail (Holds k b) me t w = cc
 serving_mail (Refused k) me t w = cc
-
--- one mailbox more that does not ask
-pub passed_more : (ranks : List PlainRank) (token : Token) (s : PlainSeat) (r : ℕ) → Fits ranks token s
-    → (r ≢ s.number → wants (plain ranks r).mailbox s.number ≡ false) → NoneAsks (shown_by s) r (told_of ranks token)
-    → NoneAsks (shown_by s) (r + 1) (told_of ranks token)
-passed_more ranks token s r fits quiet before k below other mail = dite (ℕ_discrete k r)
-    (λ e. fits.served k (serving_mail (plain ranks k).mailbox s.number (sym (ap (λ (y : Place). y.mail) (told_place ranks token k)) ∙ mail)
-    (subst (λ (j : ℕ). wants (plain ranks j).mailbox s.number ≡ false) (sym e) (quiet (λ q. other (e ∙ q))))))
-    (λ ne. before k (omega arith) other mail)
-
-pub asks_mail : (ranks : List PlainRank) (token : Token) (me r : ℕ) → wants (plain ranks r).mailbox me ≡ true → (place (told_of ranks token) r).mail ≡ asked me
-asks_mail ranks token me r w = ap (λ (y : Place). y.mail) (told_place ranks token r) ∙ ap mail_of (wants_is (plain ranks r).mailbox me w)
-
-pub unserved : (ranks : List PlainRank) (token : Token) (s : PlainSeat) (r : ℕ) → Fits ranks token s → wants (plain ranks r).mailbox s.number ≡ true
-    → get_or s.serves.items r false ≡ false
-unserved ranks token s r fits w =
-    not_true (get_or s.serves.items r false) (λ t. (let a : Wants s.number ≡ Served s.number = sym (wants_is (plain ranks r).mailbox s.number w)
-    ∙ fits.serves r t in cc))

@@ -15,7 +15,7 @@ use Rattle.ring_core.specs.declared.states.Token.TheVariants.{At, Over}
 use Rattle.post_board.specs.Plain.{HereFits}
 use Rattle.post_board.specs.Words.{Sign, resting, token_read, word_of_token}
 use Rattle.post_board.proofs.WordLemmas.{token_of_word}
-use Rattle.post_board.specs.BoardRule.{TableState, MailboxFacts, RingFacts, HaltFacts, Moment, Rule, signs_in, slots_in, token_in, halt_in, stops_in, OwnFits}
+use Rattle.post_board.specs.BoardRule.{TableState, MailboxFacts, RingFacts, Rule, signs_in, slots_in, token_in, OwnFits}
 use Rattle.post_board.specs.BoardSteps.{Going, SeatState, noted, knows, knowing, heard_at, RingTells, after_pass, PassTells, after_restart}
 use Rattle.post_board.specs.BoardSteps.{RestartTells, after_conclude, ConcludeTells}
 use Rattle.post_board.specs.declared.board_views.Known.{Known}

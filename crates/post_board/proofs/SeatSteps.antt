@@ -1,23 +1,21 @@
 -- Seats are made, taken in, and settle; and the table at the start.
-use Rattle.std.proofs.Common.{◌≡◌, ℕ, zero, suc, ◌+◌, ◌<◌, ◌≤◌, ◌≢◌, ◌⊎◌, inl, inr, ⊎_elim, refl, sym, subst, ap, ◌∙◌, arith, Bool, true, false, cond}
+use Rattle.std.proofs.Common.{◌≡◌, ℕ, zero, suc, ◌+◌, ◌<◌, ◌≤◌, ◌≢◌, ◌⊎◌, ⊎_elim, refl, sym, subst, ap, ◌∙◌, arith, Bool, true, false, cond}
 use Rattle.std.proofs.Common.{nat_lt, List, [], ◌∷◌, ◌++◌, map, replicate, length, get_or, set, get_or-set_same, get_or-set_other, length-set}
-use Rattle.std.proofs.Common.{length-append, ◌==◌, None}
+use Rattle.std.proofs.Common.{◌==◌, None}
 use Rattle.std.specs.List.{All, range_with_len}
 use Rattle.std.proofs.lemmas.List.{append-nil, get_or-map, get_or-replicate, length-replicate, length-map}
-use Rattle.std.proofs.lemmas.List.Elements.{All-nil, All-cons, All-append}
+use Rattle.std.proofs.lemmas.List.Elements.{All-cons}
 use Rattle.std.proofs.lemmas.Nat.Bits.{bit_at-zero}
-use mathlib.Core.Option.{none, some, some-injective, some-ne-none}
+use mathlib.Core.Option.{none, some}
 use mathlib.Core.Option as Core
-use lib.ListN.{get_elem?}
 use Rattle.atomic_table.specs.Table.{step, keeps, opening, Allows, Splits, Joins}
-use Rattle.atomic_table.proofs.Lists.{at_set, set_else, set_here, at_longer}
 use Rattle.ring_core.specs.declared.states.Colour.TheVariants.{Black}
 use Rattle.ring_core.specs.declared.states.Token.TheVariants.{At}
 use Rattle.post_board.specs.Told.{Place, no_place}
 use Rattle.post_board.specs.Words.{has_bit, Sign, resting, sign, token_read, word_of_token, full}
 use Rattle.post_board.proofs.WordLemmas.{sign_of_word, token_of_word}
-use Rattle.post_board.specs.BoardRule.{Parcel, TableState, MailboxFacts, RingFacts, HaltFacts, Moment, Rule, KeptIn, serves, given, taken, on_way}
-use Rattle.post_board.specs.BoardRule.{signs_in, slots_in, token_in, halt_in, stops_in, OwnFits, SlotFits, sheet, told_of, fresh, opened, dealing}
+use Rattle.post_board.specs.BoardRule.{Parcel, TableState, RingFacts, Rule, given, taken, on_way}
+use Rattle.post_board.specs.BoardRule.{signs_in, slots_in, token_in, halt_in, stops_in, OwnFits, SlotFits, fresh, opened, dealing}
 use Rattle.post_board.specs.BoardRule.{dealt_out, both, spent}
 use Rattle.post_board.specs.BoardSteps.{SeatState, noted, knows, LastLookTells}
 use Rattle.post_board.specs.declared.board_views.Known.{Known}

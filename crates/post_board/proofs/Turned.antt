@@ -8,7 +8,7 @@ use Rattle.ring_core.specs.declared.states.Token.TheVariants.{At, Over}
 use Rattle.post_board.specs.Told.{Told, Place, vacant, place, put_place}
 use Rattle.post_board.specs.Deeds.{withdraw, told_late}
 use Rattle.post_board.specs.Plain.{HereFits}
-use Rattle.post_board.specs.Words.{Sign, resting, asking, serving, full, fetching, emptied}
+use Rattle.post_board.specs.Words.{Sign, resting, serving}
 use Rattle.post_board.specs.BoardRule.{TableState, Rule, OwnFits, asked_of, mail_of, place_of, serves, signs_in, slots_in, token_in, told_of}
 use Rattle.post_board.specs.BoardMoments.{told_at}
 use Rattle.post_board.specs.BoardSteps.{noted, after_ask, after_look, after_taking, after_post, after_refusing, after_fetch, after_rest, heard_at}

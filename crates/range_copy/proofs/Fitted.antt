@@ -11,7 +11,7 @@ use Rattle.path_text.specs.Graft.{ParentMovesToo}
 use Rattle.path_text.specs.Order.{IsPreorder, ParentIsOver, UnderIsContiguous, is_under, is_within}
 use Rattle.path_text.specs.Path.{parent_of, refusal}
 use Rattle.outside.specs.Parts.{UnderDirectories}
-use Rattle.outside.specs.Tree.{Files, IsTree, Node, Body, dir, file, link, other, is_dir, is_root, kind_of, link_at, stat_of}
+use Rattle.outside.specs.Tree.{Files, IsTree, Node, Body, dir, file, link, other, is_dir, kind_of, link_at, stat_of}
 use Rattle.outside.specs.declared.trees.Kind.TheVariants as kind
 use Rattle.outside.specs.declared.trees.Stat.{Stat}
 use Rattle.entry_pages.specs.Entries.{is_kind}

@@ -2,7 +2,6 @@
 use Rattle.std.proofs.Common.{◌≡◌, ℕ, zero, suc, ◌+◌, Bool, true, false, not, cond, ◌||◌, ◌&&◌, List, [], ◌∷◌, ◌++◌}
 use Rattle.std.proofs.Common.{length, take, Option, Some, None, refl, ap}
 use Rattle.std.proofs.Common.{◌∙◌, sym, arith, nat_eq, slice_get}
-use Rattle.std.proofs.lemmas.Bool.{false≢true, false_from_ne_true}
 use Rattle.std.proofs.lemmas.List.Folds.{list_any-append}
 use Rattle.std.specs.Prelude.{nat_le, Result, Ok, Err, OnOk}
 use Rattle.std.specs.List.{list_any}
@@ -17,7 +16,7 @@ use Rattle.tree_copy.specs.declared.pairs.Pair.{Pair}
 use Rattle.range_copy.specs.PrivateLarge.{AreFailed, failed_at, fitting_target, has_path}
 use Rattle.range_copy.proofs.Parted.{turned_off}
 use Rattle.range_copy.proofs.Rows.{Row}
-use Rattle.range_copy.proofs.Tried.{fits, too_long}
+use Rattle.range_copy.proofs.Tried.{fits}
 
 same_turn : (a b : List ℕ) → pointwise nat_eq a b ≡ pointwise nat_eq b a
 same_turn a b = by (pointwise nat_eq b a) refl
@@ -55,15 +54,6 @@ noted_done pairs rows paths p f is h q short =
     h q short ∙ sym (failed_more pairs rows p f q
     ∙ ap (λ b. failed_at pairs rows q || ((pointwise nat_eq (target_of pairs p) q && not b) || false)) is
     ∙ ap (λ b. failed_at pairs rows q || (b || false)) (and_done (pointwise nat_eq (target_of pairs p) q)) ∙ or_none (failed_at pairs rows q))
-
-pub noted_long : (pairs : List Pair) (rows : List Row) (paths : List (List ℕ)) (p : List ℕ) (f : Fate) → fitting_target pairs p ≡ None →
-    AreFailed pairs rows paths → AreFailed pairs (rows ++ (p, f) ∷ []) paths
-noted_long pairs rows paths p f is h q short =
-    let off = false_from_ne_true (pointwise nat_eq (target_of pairs p) q) (λ same.
-    let e = (bytes_decides (target_of pairs p) q).0 same in
-    false≢true (sym (too_long pairs p is) ∙ ap (λ t. nat_le (length t) 4095) e ∙ short)) in
-    h q short
-    ∙ sym (failed_more pairs rows p f q ∙ ap (λ b. failed_at pairs rows q || ((b && not (is_done f)) || false)) off ∙ or_none (failed_at pairs rows q))
 
 pub noted_more : (pairs : List Pair) (rows : List Row) (paths now : List (List ℕ)) (p t : List ℕ) (f : Fate) → is_done f ≡ false →
     fitting_target pairs p ≡ Some t → ((q : List ℕ) → has_path now q ≡ (pointwise nat_eq q t || has_path paths q)) → AreFailed pairs rows paths →

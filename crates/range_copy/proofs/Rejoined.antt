@@ -13,7 +13,7 @@ use Rattle.path_text.specs.Path.{refusal}
 use Rattle.path_text.specs.Total.{path_cmp_same}
 use Rattle.outside.specs.Lease.{in_tops, kept}
 use Rattle.outside.specs.Parts.{UnderDirectories}
-use Rattle.outside.specs.Spans.{IsRejoined, Piece, are_cuts, area_cut, cuts_at, cuts_in, joined_bytes, pieces, zeros_of}
+use Rattle.outside.specs.Spans.{IsRejoined, Piece, are_cuts, area_cut, cuts_in, joined_bytes, pieces, zeros_of}
 use Rattle.outside.specs.Tree.{Files, IsTree, Node, Body, dir, file, link, other, content, is_dir, is_file}
 use Rattle.outside.specs.Writes.{Area, SameBut, new_file, nothing_lent}
 use Rattle.range_copy.specs.Large.{HasBytes, IsSource, SpansComeBack}

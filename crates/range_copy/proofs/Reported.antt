@@ -146,5 +146,3 @@ module _ (list : List Entry) (pairs : List Pair) (given : Given list pairs) (pie
   all_reported small large marks s l m ran (Ok report) own copied bytes =
       reported_by small large marks s l m ran report (record { rows = own; copied = copied; bytes = bytes })
   all_reported small large marks s l m ran (Err e) own copied bytes = tt
-
--- what is so of a result where something else is

@@ -19,7 +19,7 @@ use Rattle.entry_pages.specs.Entries.{size_by}
 use Rattle.entry_pages.specs.declared.entries.Entry.{Entry}
 use Rattle.level_work.specs.declared.items.Fate.{Fate}
 use Rattle.level_work.specs.declared.items.Fate.TheVariants as fate
-use Rattle.tree_copy.specs.Causes.{HasCause, IsReadTo, IsWritten, LookMeans, ReadMeans, RefusalMeans, ShowsSpans, SpansFailed, WasSpanned, WasWritten}
+use Rattle.tree_copy.specs.Causes.{HasCause, IsReadTo, IsWritten, LookMeans, ReadMeans, RefusalMeans, ShowsSpans, SpansFailed, WasSpanned}
 use Rattle.tree_copy.specs.Causes.{by_count, by_look, by_read, by_refusal, by_spans, refusal_means}
 use Rattle.tree_copy.specs.Copying.{target_of}
 use Rattle.tree_copy.specs.declared.pairs.Pair.{Pair}

@@ -1,5 +1,5 @@
 -- What the steps of drm told, as its own words say it.
-use Rattle.std.proofs.Common.{◌≡◌, inl, inr, ⊎_elim, ℕ, ◌≤◌, Bool, true, false, List, Option, Some, None, IfSome, is_some, ◌∙◌, subst}
+use Rattle.std.proofs.Common.{◌≡◌, inl, inr, ⊎_elim, ℕ, Bool, true, false, List, Some, IfSome, is_some, ◌∙◌, subst}
 use Rattle.entry_pages.specs.declared.entries.Entry.{Entry}
 use Rattle.flat_list.specs.Spelling.{paths}
 use Rattle.tree_remove.specs.Removing.{SameButChosen}

@@ -1,6 +1,6 @@
 -- When drm succeeds.
-use Rattle.std.proofs.Common.{◌≡◌, inr, ⊎_elim, ℕ, zero, suc, ◌+◌, ◌<◌, ◌≤◌, Bool, true, false, cond, ◌||◌, ◌&&◌, List, [], ◌∷◌, ◌++◌, length, map}
-use Rattle.std.proofs.Common.{Some, refl, ap, ◌∙◌, sym, subst, arith, nat_eq, nat_lt, get_or, length-append}
+use Rattle.std.proofs.Common.{◌≡◌, inr, ⊎_elim, ℕ, ◌+◌, ◌≤◌, Bool, true, false, cond, List, [], ◌∷◌, ◌++◌, length, map}
+use Rattle.std.proofs.Common.{Some, refl, ap, ◌∙◌, sym, subst, arith, get_or}
 use Rattle.std.proofs.lemmas.Bool.Decides.{nat_tests}
 use Rattle.std.proofs.lemmas.List.Elements.{All-filter, All-from_recursion, recursion_from_All}
 use Rattle.std.specs.Prelude.{◌==◌}

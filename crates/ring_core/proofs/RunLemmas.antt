@@ -83,11 +83,6 @@ NoEmptyBatch-ranks_after ranks token (Restart rank) legal some = NoEmptyBatch-se
 NoEmptyBatch-ranks_after ranks token (Conclude rank) legal some = NoEmptyBatch-set ranks rank _ (conclude_says ranks token rank legal).0.0 (some rank) some
 NoEmptyBatch-ranks_after ranks token (SeeOver rank) legal some = NoEmptyBatch-set ranks rank _ (see_over_says ranks token rank legal).0 (some rank) some
 
-pub NoEmptyBatch-after_all : (events : List Event) (world : Seen) → IsRun world events → NoEmptyBatch world.0 → NoEmptyBatch (after_all world events).0
-NoEmptyBatch-after_all [] world run some = some
-NoEmptyBatch-after_all (event ∷ events) world (legal, run) some =
-    NoEmptyBatch-after_all events (after world event) run (NoEmptyBatch-ranks_after world.0 world.1 event legal some)
-
 -- a rank has ended only where the token says that all is over
 abbrev pub EndsOnlyOver : List RankState → Token → Type 0
 EndsOnlyOver ranks token = (r : ℕ) → IsTrue (rank_of ranks r).ended → token ≡ Over

@@ -1,6 +1,5 @@
 -- What is told of a walk, from its roots on.
-use Rattle.std.proofs.Common.{ℕ, ◌<◌, List, Option, Some, None, IfSome, ◌≡◌, Bool, true, false, ◌&&◌, refl, subst, arith, ⊎_elim}
-use Rattle.std.proofs.lemmas.Bool.{false≢true}
+use Rattle.std.proofs.Common.{ℕ, ◌<◌, List, Option, Some, None, IfSome, ◌≡◌, Bool, true, false, ◌&&◌, refl, subst, arith}
 use Rattle.std.specs.Prelude.{Result, Ok, Err, IfOk, ◌||◌, ◌==◌}
 use Rattle.std.specs.List.{flat_map}
 use Rattle.std.specs.List.Sorted.{IsStrictlySortedBy}
@@ -17,7 +16,6 @@ use Rattle.tree_walk.specs.declared.errors.WalkError.{WalkError}
 use Rattle.tree_walk.specs.Walk.{walk, answers_in}
 use Rattle.tree_walk.specs.Roots.{IsRoots}
 use Rattle.tree_walk.specs.Found.{IsFound, IsWalkOf, FoundTooMany, IfTooMany}
-use Rattle.tree_walk.specs.Cut.{IsTooMany}
 use Rattle.tree_walk.specs.declared.errors.WalkError.TheVariants as error
 use Rattle.run_report.specs.Sides.{Side}
 use Rattle.run_entries.specs.declared.accounts.Entries.{Entries}
@@ -72,9 +70,3 @@ stops before after given starts (error.TooMany n) are h = record {
   walked = walked_from before after given starts h.list are h.found;
   many = subst (λ m. max_entries < m) h.number h.above;
 }
-
--- without a stop only a whole walk is too much
-pub too_much : (e : WalkError) (tree : Option Files) (starts : List (List ℕ)) (old new : ℕ) → IfTooMany e (IsTooMany None tree starts old new) →
-    IfTooMany e (FoundTooMany tree starts old new)
-too_much error.OutOfMemory tree starts old new h = tt
-too_much (error.TooMany n) tree starts old new h = ⊎_elim (λ whole. whole) (λ cut. absurd (false≢true cut.0)) h

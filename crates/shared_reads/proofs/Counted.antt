@@ -1,5 +1,5 @@
 -- Counts of several readers that read together, and then of the first one, which goes on.
-use Rattle.std.proofs.Common.{◌≡◌, ℕ, ◌+◌, ◌-◌, ◌^◌, ◌<◌, ◌≤◌, Bool, true, false, ◌||◌, List, [], ◌∷◌, length, map, get_or, set, refl, sym, ap, ◌∙◌}
+use Rattle.std.proofs.Common.{◌≡◌, ℕ, ◌+◌, ◌-◌, ◌^◌, ◌<◌, ◌≤◌, Bool, true, false, ◌||◌, List, [], ◌∷◌, length, map, get_or, set, refl, ap, ◌∙◌}
 use Rattle.std.proofs.Common.{arith, nat_le, Option}
 use Rattle.std.specs.Prelude.{sum}
 use Rattle.std.proofs.lemmas.Bool.{leb-false}
@@ -125,7 +125,3 @@ kept_first n old c e = record { kept = omega arith; rose = λ below. omega (arit
 
 pub kept_rose : (n m a b : ℕ) → KeepsUp n m a b → RoseBy 0 a b
 kept_rose n m a b k = record { kept = k.kept; rose = omega (arith, k.kept) }
-
--- a reader read, and no more was kept
-pub rose_kept : (h f c c' : ℕ) → RoseBy f c c' → KeepsUp h f c c'
-rose_kept h f c c' r = record { kept = r.kept; rose = λ below. omega (arith, r.rose, below) }

@@ -23,10 +23,6 @@ both_false : (a b : Bool) → (a || b) ≡ false → (a ≡ false) × (b ≡ fal
 both_false true b e = cc
 both_false false b e = (refl, e)
 
-or_zero : (b : Bool) → (b || false) ≡ b
-or_zero true = refl
-or_zero false = refl
-
 -- ---- lists turned round
 
 reverse_cons : {A : Type 0} (x : A) (xs : List A) → reverse (x ∷ xs) ≡ reverse xs ++ x ∷ []

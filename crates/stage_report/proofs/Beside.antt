@@ -1,8 +1,8 @@
 -- Nothing done is at or under a left string that is placed.
-use Rattle.std.proofs.Common.{◌≡◌, Bool, true, false, ◌&&◌, ◌||◌, List, [], ◌∷◌, refl, ap, ◌∙◌, sym, ℕ}
+use Rattle.std.proofs.Common.{◌≡◌, false, ◌&&◌, ◌||◌, List, [], ◌∷◌, refl, ap, ◌∙◌, ℕ}
 use Rattle.std.specs.Prelude.{nat_lt, not}
 use Rattle.std.specs.List.{AllByRecursion, list_any, count_by}
-use Rattle.std.proofs.lemmas.Bool.{false≢true, or_parts}
+use Rattle.std.proofs.lemmas.Bool.{or_parts}
 use Rattle.std.proofs.lemmas.List.Elements.{All-from_recursion, recursion_from_All}
 use Rattle.entry_pages.specs.declared.entries.Entry.{Entry}
 use Rattle.tree_walk.specs.Roots.{is_in, is_in_some}

@@ -1,5 +1,5 @@
 -- The final sum of rank 0 is the sum of the counts that all seats show.
-use Rattle.std.proofs.Common.{◌≡◌, ℕ, ◌<◌, ◌≤◌, refl, sym, subst, ap, ◌∙◌, arith, true, false, List, [], ◌∷◌, length, get_or, sum_by}
+use Rattle.std.proofs.Common.{◌≡◌, ℕ, ◌<◌, ◌≤◌, refl, sym, subst, ap, ◌∙◌, arith, true, false, List, length, get_or, sum_by}
 use Rattle.std.proofs.Common.{Option, Some, None, is_some, IsSome, IfSome}
 use Rattle.std.specs.List.{Contains, range_with_len}
 use Rattle.std.proofs.lemmas.List.{get_or_read}

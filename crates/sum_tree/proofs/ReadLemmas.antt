@@ -25,15 +25,6 @@ one_range a k = joined_ranges a k 1
 sum_of_one : (f : ℕ → ℕ) (x : ℕ) → sum_by f (x ∷ []) ≡ f x
 sum_of_one f x = sum_by-cons f x [] ∙ omega arith
 
-pub loaded_none : (v : Known) (a : ℕ) → Loaded v (range_with_len a 0) v
-loaded_none v a = record {
-  loads = [];
-  read = record { words = refl; kept = All-nil (λ x. x.left ≡ x.found) };
-  seen = refl;
-  are = sym (append-nil v.readings);
-  same = refl;
-}
-
 seen_grows : (w : Known) (c found : ℕ) → c < length w.seen → seen_of w c ≤ found / 2 → (e : ℕ) → seen_of w e ≤ seen_of (after_load w c found) e
 seen_grows w c found inside up e = dite (ℕ_discrete e c)
     (λ q. let at : seen_of (after_load w c found) e ≡ found / 2 = ap (λ (j : ℕ). get_or (set w.seen c (found / 2)) j 0) q

@@ -1,12 +1,9 @@
 -- The table of sums at the start.
-use Rattle.std.proofs.Common.{◌≡◌, ℕ, zero, suc, ◌<◌, ◌≤◌, ◌⊎◌, inr, refl, sym, subst, ap, ◌∙◌, arith, false, List, [], ◌∷◌}
+use Rattle.std.proofs.Common.{◌≡◌, ℕ, zero, suc, ◌<◌, ◌≤◌, refl, sym, subst, ap, ◌∙◌, arith, false, List, []}
 use Rattle.std.proofs.Common.{map, replicate, length, get_or}
-use Rattle.std.specs.List.{All, range_with_len}
+use Rattle.std.specs.List.{range_with_len}
 use Rattle.std.proofs.lemmas.List.{ext_get_or, get_or-replicate, length-replicate}
 use Rattle.std.proofs.lemmas.List.FromFn.{length-map-range_with_len, get_or-map-range_with_len}
-use Rattle.std.proofs.lemmas.List.Elements.{All-nil}
-use mathlib.Core.Option.{some, some-injective, some-ne-none}
-use lib.ListN.{get_elem?}
 use Rattle.atomic_table.specs.Table.{opening}
 use Rattle.sum_tree.specs.Told.{uncounted}
 use Rattle.sum_tree.specs.Plain.{IsSeat, fresh as fresh_shown}
@@ -14,9 +11,7 @@ use Rattle.sum_tree.specs.declared.ranks.RankSum.{RankSum}
 use Rattle.ring_core.proofs.SeatLemmas.{first_seat}
 use Rattle.sum_tree.proofs.Begins.{fresh_is_seat}
 use Rattle.sum_tree.proofs.WordSteps.{face, rule_with}
-use Rattle.sum_tree.specs.TreeRule.{Rule, KeptIn, row_of, told_of, seen_of, fresh, opened}
-use Rattle.sum_tree.specs.declared.tree_views.Known.{Known}
-use Rattle.sum_tree.specs.declared.tree_views.View.{View}
+use Rattle.sum_tree.specs.TreeRule.{Rule, row_of, told_of, seen_of, fresh, opened}
 
 never : (n r : ℕ) → get_or (replicate n false) r false ≡ false
 never zero r = refl
@@ -45,8 +40,3 @@ starts n width ws some_rank few wide narrow e =
       finals = λ r c h g f. absurd (let z = never n c in cc);
       low = λ r h. omega arith;
     }
-
-pub starts_at : (n width : ℕ) (key : ℕ × ℕ) (ws : List ℕ) → key ≡ (n, width) → 0 < n → n ≤ 64 → 2 ≤ width → width ≤ 64 → ws ≡ replicate n 0
-    → Rule key.0 key.1 (opening ws [] (opened key.0 key.1))
-starts_at n width key ws k some_rank few wide narrow e =
-    subst (λ (q : ℕ × ℕ). Rule q.0 q.1 (opening ws [] (opened q.0 q.1))) (sym k) (starts n width ws some_rank few wide narrow e)

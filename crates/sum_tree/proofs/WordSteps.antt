@@ -1,11 +1,11 @@
 -- Each kind of step on a word of the sums keeps the rule.
-use Rattle.std.proofs.Common.{◌≡◌, ℕ, zero, suc, ◌+◌, ◌-◌, ◌*◌, ◌/◌, ◌%◌, ◌^◌, ◌<◌, ◌≤◌, ◌≢◌, ◌⊎◌, ⊎_elim, refl, sym, subst, ap, ◌∙◌, arith, ◌==◌}
-use Rattle.std.proofs.Common.{Bool, true, false, cond, min, List, [], ◌∷◌, map, length, get_or, set, get_or-set_same, get_or-set_other, length-set}
+use Rattle.std.proofs.Common.{◌≡◌, ℕ, zero, suc, ◌+◌, ◌-◌, ◌*◌, ◌/◌, ◌%◌, ◌^◌, ◌<◌, ◌≤◌, refl, sym, subst, ap, ◌∙◌, arith, ◌==◌}
+use Rattle.std.proofs.Common.{Bool, true, false, min, List, ◌∷◌, map, length, get_or, set, get_or-set_same, get_or-set_other, length-set}
 use Rattle.std.proofs.Common.{eq-eqb, ne_eqb, sum_by}
-use Rattle.std.specs.List.{All, Contains, range_with_len, list_all}
+use Rattle.std.specs.List.{Contains, range_with_len, list_all}
 use Rattle.std.proofs.lemmas.List.{ext_get_or}
 use Rattle.std.proofs.lemmas.List.FromFn.{length-map-range_with_len, get_or-map-range_with_len}
-use mathlib.Core.Option.{none, some, some-injective, some-ne-none}
+use mathlib.Core.Option.{none, some}
 use mathlib.Core.Logic.{dite}
 use native.Mathlib.Decide.{ℕ_discrete}
 use lib.ListN.{get_elem?}

@@ -32,10 +32,6 @@ pub none_any : {X : Type 0} (f : X → Bool) (xs : List X) → AllByRecursion (�
 none_any f [] h = refl
 none_any f (x ∷ xs) h = (λ i. h.0 i || none_any f xs h.1 i)
 
-pub each_not : {X : Type 0} (f : X → Bool) (xs : List X) → list_any f xs ≡ false → AllByRecursion (λ x. f x ≡ false) xs
-each_not f [] e = tt
-each_not f (x ∷ xs) e = let p = or_parts (f x) (list_any f xs) e in (p.0, each_not f xs p.1)
-
 -- an element that a test keeps
 pub kept : {X : Type 0} (p : X → Bool) (P : X → Type 0) (xs : List X) → AllByRecursion P xs → AllByRecursion (λ x. (p x ≡ true) × P x) (filter p xs)
 kept p P [] h = tt

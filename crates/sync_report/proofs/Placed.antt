@@ -1,19 +1,18 @@
 -- What the look at what is over the destination told.
-use Rattle.std.proofs.Common.{◌≡◌, ℕ, ◌+◌, ◌-◌, ◌^◌, ◌<◌, Bool, true, false, cond, [], ◌∷◌, min, Option, Some, None, IfSome, Result, Ok, Err, IfErr}
+use Rattle.std.proofs.Common.{◌≡◌, ℕ, ◌+◌, ◌-◌, ◌^◌, ◌<◌, Bool, true, false, cond, min, Option, Some, None, IfSome, Result, Ok, Err, IfErr}
 use Rattle.std.proofs.Common.{refl, ap, arith}
 use Rattle.std.specs.FinMap.{get}
-use Rattle.path_text.specs.Path.{parent_of, refusal}
+use Rattle.path_text.specs.Path.{parent_of}
 use Rattle.outside.specs.Asked.{Asks}
 use Rattle.outside.specs.Count.{RoseBy}
 use Rattle.outside.specs.Tree.{Files, is_dir}
-use Rattle.tree_copy.specs.Placing.{overlap}
 use Rattle.tree_copy.specs.declared.pairs.Pair.{Pair}
 use Rattle.tree_copy.specs.declared.pairs.PlaceError.{PlaceError}
 use Rattle.tree_copy.specs.declared.pairs.PlaceError.TheVariants as place
 use Rattle.tree_sync.specs.Placing.{IsLookCounted, IsSyncWhy, SyncPlaceStopped, sync_placed, sync_placed_over}
 use Rattle.run_report.specs.Sides.{Side}
 use Rattle.sync_report.specs.Placing.{Places}
-use Rattle.sync_report.specs.PrivateSteps.{IsPlaced, StopsPlacing}
+use Rattle.sync_report.specs.PrivateSteps.{StopsPlacing}
 
 abbrev pub Placed : Type 0
 Placed = Result (Unit {0}) PlaceError
@@ -31,29 +30,9 @@ places : (pair : Pair) (tree : Option Files) (answer : Placed) (over_dir : Bool)
 places pair None answer over_dir due told = record { over_dir = over_dir; due = due; told = tt }
 places pair (Some files) answer over_dir due told = record { over_dir = is_dir (get files (parent_of pair.target)); due = told; told = refl }
 
-is_over : (meets over : Bool) → due_by meets over ≡ Ok tt → over ≡ true
-is_over true over e = absurd (not_ok place.Overlap (due_by true over) refl e)
-is_over false true e = refl
-is_over false false e = absurd (not_ok place.NoDest (due_by false false) refl e)
-
 pub no_overlap : (meets over : Bool) → due_by meets over ≡ Ok tt → meets ≡ false
 no_overlap true over e = absurd (not_ok place.Overlap (due_by true over) refl e)
 no_overlap false over e = refl
-
-pub is_placed : (pair : Pair) (tree : Option Files) → refusal pair.source ≡ None → refusal pair.target ≡ None →
-    overlap (pair.source ∷ pair.target ∷ []) ≡ false → IfSome tree (λ files. sync_placed_over files pair.source pair.target ≡ Ok tt) → IsPlaced pair tree
-is_placed pair tree from to off told = record {
-  places = places pair tree (Ok tt) true (ap (λ b. due_by b true) off) told;
-  from = from;
-  to = to;
-  apart = off;
-  stand = stands tree told;
-}
-  where
-    stands : (t : Option Files) → IfSome t (λ files. sync_placed_over files pair.source pair.target ≡ Ok tt) →
-        IfSome t (λ files. is_dir (get files (parent_of pair.target)) ≡ true)
-    stands None told = tt
-    stands (Some files) told = is_over (overlap (pair.source ∷ pair.target ∷ [])) (is_dir (get files (parent_of pair.target))) told
 
 pub stops_placing : {S : Type 0} (gives : Asks S) (pair : Pair) (before after : Side) (from until : ℕ) (old new : S) (r : Placed) →
     IfErr r (λ e. IfSome before.tree (λ files. IsSyncWhy (sync_placed_over files pair.source pair.target) e)) →

@@ -1,23 +1,13 @@
 -- The lines of the entries from one place to another.
-use Rattle.std.proofs.Common.{◌≡◌, ℕ, ◌+◌, ◌≤◌, List, [], ◌∷◌, ◌++◌, length, take, drop, arith, ap, sym, subst, ◌∙◌, append-nil}
+use Rattle.std.proofs.Common.{◌≡◌, ℕ, ◌+◌, ◌≤◌, List, [], ◌++◌, length, take, drop, arith, ap, sym, ◌∙◌}
 use Rattle.std.proofs.lemmas.List.{take-append-drop, take-append-le, drop-append-le, drop_all, length-take-le}
 use Rattle.std.proofs.lemmas.List.Concat.{flat_map-append}
-use Rattle.std.proofs.Math.Seq.{take-length}
 use Rattle.entry_pages.specs.declared.entries.Entry.{Entry}
 use Rattle.tool_text.specs.Lines.{line_of, lines_of, lines_between}
 
 -- nothing is between a place and itself
 pub between_none : (n : ℕ) (es : List Entry) → n ≤ length es → lines_between n n es ≡ []
 between_none n es inside = ap lines_of (drop_all n (take n es) (omega (arith, length-take-le n es inside)))
-
--- one entry more
-pub between_more : (from k : ℕ) (es : List Entry) (e : Entry) → from ≤ k → k ≤ length es → take (k + 1) es ≡ take k es ++ e ∷ [] →
-    lines_between from (k + 1) es ≡ lines_between from k es ++ line_of e
-between_more from k es e order inside last =
-    ap (λ xs. lines_of (drop from xs)) last
-    ∙ ap lines_of (drop-append-le from (take k es) (e ∷ []) (omega (arith, length-take-le k es inside, order)))
-    ∙ flat_map-append line_of (drop from (take k es)) (e ∷ [])
-    ∙ ap (λ line. lines_between from k es ++ line) (append-nil (line_of e))
 
 -- the entries up to a place, in two parts
 parts : (middle to : ℕ) (es : List Entry) → middle ≤ to → to ≤ length es → take middle es ++ drop middle (take to es) ≡ take to es
@@ -35,7 +25,3 @@ between_both from middle to es first second inside =
     sym (flat_map-append line_of (drop from (take middle es)) (drop middle (take to es)))
     ∙ ap lines_of (sym (drop-append-le from (take middle es) (drop middle (take to es)) (omega (arith, known, first))))
     ∙ ap (λ xs. lines_of (drop from xs)) (parts middle to es second inside)
-
--- from the first entry behind the last one
-pub between_all : (es : List Entry) → lines_between 0 (length es) es ≡ lines_of es
-between_all es = ap lines_of (take-length es)

@@ -19,7 +19,7 @@ use Rattle.tool_words.specs.Asked.{input}
 use Rattle.tool_words.specs.Clashes.{place_of}
 use Rattle.tool_words.specs.Limits.{Valid, Lower}
 use Rattle.tool_words.specs.Table.{Set, set, raise}
-use Rattle.tool_words.specs.Value.{is, trimmed, number_in, split_in, path_in, lower_path_in, order_in, test_in, is_colon, if_expr, want_by, want_in}
+use Rattle.tool_words.specs.Value.{trimmed, number_in, split_in, path_in, lower_path_in, order_in, test_in, is_colon, if_expr, want_by, want_in}
 use Rattle.tool_words.specs.Words.{Given, and_then}
 
 pub one_of : {X : Type 0} (P : X → Type 0) (b : Bool) (x y : X) → P x → P y → P (cond b x y)

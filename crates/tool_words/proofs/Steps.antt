@@ -1,6 +1,6 @@
 -- Words read one by one from left to right: what was given before a place, and what is left.
 use Rattle.std.proofs.Common.{◌≡◌, ℕ, suc, ◌+◌, ◌<◌, inl, inr, refl, ap, subst, ◌∙◌, sym, arith, None}
-use Rattle.std.proofs.Common.{List, [], ◌∷◌, length, drop, map, get_or, drop-cons}
+use Rattle.std.proofs.Common.{List, ◌∷◌, length, drop, map, get_or, drop-cons}
 use Rattle.std.specs.Prelude.{Result, Ok, Err, IsErrAnd}
 use Rattle.std.specs.List.{drop-map}
 use Rattle.tool_words.specs.declared.errors.Refusal.{Refusal}
@@ -9,18 +9,11 @@ use Rattle.tool_words.specs.declared.errors.WordsError.TheVariants as error
 use Rattle.tool_words.specs.declared.tables.Tool.{Tool}
 use Rattle.tool_words.specs.Parts.{Tells, Reads}
 use Rattle.tool_words.specs.Refusals.{refusal_in}
-use Rattle.tool_words.specs.Words.{Given, nothing, with_word, at_end, and_then, with_words}
+use Rattle.tool_words.specs.Words.{Given, nothing, with_word, and_then, with_words}
 
 -- the words before a place gave this
 pub record Read (tool : Tool) (words : List (List ℕ)) (at : ℕ) (given : Given) : Type 0 where
   pub so : with_words tool 1 words nothing ≡ with_words tool (at + 1) (drop at words) given
-
-pub at_first : (tool : Tool) (words : List (List ℕ)) → Read tool words 0 nothing
-at_first tool words = record { so = refl }
-
-pub at_last : (tool : Tool) (words : List (List ℕ)) (at : ℕ) (given : Given) →
-    Read tool words at given → drop at words ≡ [] → with_words tool 1 words nothing ≡ at_end given.next given
-at_last tool words at given r e = r.so ∙ ap (λ l. with_words tool (at + 1) l given) e
 
 -- the word at a place, behind which the others are left
 pub word_at : {A : Type 0} (text : A → List ℕ) (xs : List A) (at : ℕ) (x : A) (word : List ℕ) →

@@ -36,10 +36,6 @@ module _ (p : ℕ → Bool) where
   by_place xs (Some k) e = (split_some xs k (sym e), tt)
   by_place xs None e = (tt, split_none xs (no_place (position_or_len p xs) (length xs) (sym e)))
 
--- the place lies within the text
-pub place_inside : (p : ℕ → Bool) (xs : List ℕ) (k : ℕ) → Some k ≡ position p xs → k < length xs
-place_inside p xs k e = let at = place (position_or_len p xs) (length xs) k (sym e) in omega (arith, at.0, at.1)
-
 -- what was read before the rest
 abbrev pub onto : {X : Type 0} → List X → Result (List X) ExprError → Result (List X) ExprError
 onto xs (Ok ys) = Ok (xs ++ ys)
@@ -63,17 +59,3 @@ module _ {X : Type 0} (read : ℕ → List ℕ → Result X ExprError) (all : �
       ∙ ap (onto before) (ap (all at) are ∙ some at (take k rest) parts' ∙ (λ i. cons_reading (now i) (all (place i) parts')))
       ∙ onto_cons before x (all at' parts')
       ∙ ap (λ xs. onto xs (all at' parts')) (sym added)
-
-  -- the last part
-  pub reads_last : (whole : Result (List X) ExprError) (before after : List X) (x : X) (at : ℕ) (rest : List ℕ) (parts : List (List ℕ))
-      → whole ≡ onto before (all at parts) → parts ≡ rest ∷ [] → read at rest ≡ Ok x → after ≡ before ++ x ∷ [] → whole ≡ Ok after
-  reads_last whole before after x at rest parts so_far are now added =
-      so_far
-      ∙ ap (onto before) (ap (all at) are ∙ some at rest [] ∙ (λ i. cons_reading (now i) (none (at + length rest + 1) i)))
-      ∙ ap Ok (sym added)
-
-  -- an offence
-  pub refuses : (whole : Result (List X) ExprError) (before : List X) (at : ℕ) (part : List ℕ) (parts parts' : List (List ℕ))
-      (e : ExprError) → whole ≡ onto before (all at parts) → parts ≡ part ∷ parts' → read at part ≡ Err e → whole ≡ Err e
-  refuses whole before at part parts parts' e so_far are now =
-      so_far ∙ ap (onto before) (ap (all at) are ∙ some at part parts' ∙ (λ i. cons_reading (now i) (all (at + length part + 1) parts')))

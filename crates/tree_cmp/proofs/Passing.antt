@@ -93,13 +93,6 @@ pub sought_here : (IsSo : List (List ℕ) → ℕ → List ℕ → Type 0) (key 
     (all : List (List ℕ)) (at : ℕ) (sought : List ℕ) → IsHere side k e new → IsNext IsSo key side k all at → sought ≡ key e → IsSo all at sought
 sought_here IsSo key side k e new all at sought h next is = subst (IsSo all at) (ap key h.is ∙ sym is) (next.1 e h.inside)
 
--- so a search that did not pass an entry does not pass the next one
-pub next_by_path : (side : List Entry) (k : ℕ) (e : Entry) (new : List Entry × ℕ) (all : List (List ℕ)) (at : ℕ) → IsHere side k e new →
-    IsStrictlySortedBy path_cmp (paths side) → IsPassed all at e.path → IsNext IsPassed (λ e. e.path) side new.1 all at
-next_by_path side k e new all at h s p =
-    subst (λ n. IsNext IsPassed (λ e. e.path) side n all at) (sym (step side k e new h))
-    (p.inside, λ d l. passed_later all at e.path (get_or side (k + 1) d).path (follow side k e d new h s l) p)
-
 pub next_below : BelowKeepsOrder → (top : List ℕ) (side : List Entry) (k : ℕ) (e : Entry) (new : List Entry × ℕ) (all : List (List ℕ)) (at : ℕ) →
     IsHere side k e new →
     IsStrictlySortedBy path_cmp (paths side) → All (λ e. IsTrue (is_within e.path top)) side → IsPassed all at (below_of e.path top) →

@@ -1,7 +1,7 @@
 -- Outcomes are put beside the rows, from the last one on.
 use Rattle.std.proofs.Common.{◌≡◌, ℕ, ◌+◌, ◌-◌, ◌<◌, ◌≤◌, List, [], ◌∷◌, map, length, refl, sym, subst}
 use Rattle.std.proofs.Common.{set, get_or, get_or-set_same, get_or-set_other, length-set}
-use Rattle.std.proofs.Common.{ap, ◌∙◌, arith, zero, suc, Option, Some, None, IfSome, All}
+use Rattle.std.proofs.Common.{ap, ◌∙◌, arith, zero, suc, Option, Some, None, IfSome}
 use Rattle.std.proofs.lemmas.List.Sums.{sum_by-set}
 use Rattle.std.proofs.lemmas.List.{get_or-map, get_or_default}
 use Rattle.std.proofs.Math.Seq.{map-set_same}

@@ -1,5 +1,5 @@
 -- One path more: what both sides have at the next path in path order.
-use Rattle.std.proofs.Common.{◌≡◌, ℕ, ◌+◌, ◌<◌, Bool, true, false, not, ◌&&◌, ◌||◌, List, [], ◌∷◌, ◌++◌, map, length, append_assoc, refl, ap}
+use Rattle.std.proofs.Common.{◌≡◌, ℕ, ◌+◌, Bool, true, false, not, ◌&&◌, ◌||◌, List, [], ◌∷◌, ◌++◌, map, append_assoc, refl, ap}
 use Rattle.std.proofs.Common.{◌∙◌, sym, subst, arith, cond, eqb, append-nil, if◌then◌else◌, Option, Some, None, is_some}
 use Rattle.std.specs.List.{AllByRecursion, cons_option}
 use Rattle.std.specs.List.Sorted.{IsStrictlySortedBy}
@@ -403,12 +403,6 @@ goes_on order contiguous links h h' l r a b l' r' t y v e L R before after d g r
     let row = row_after (links (path_of a b)) h a b in
     subst (From links None L R) (sym (ap (λ x. x ++ rest) d ∙ append_assoc before row rest))
     (g (row ++ rest) (step order contiguous links h l r a b l' r' t y v rest (subst (λ k. From links k l' r' rest) e f)))
-
-pub fewer : (l r : List Item) (a b : Option Item) (l' r' : List Item) → Takes l r a b l' r' → length l' + length r' < length l + length r
-fewer l r None None l' r' t = absurd (false≢true t.some)
-fewer l r None (Some y) l' r' t = omega (arith, ap length t.left.are, ap length t.right.are)
-fewer l r (Some x) None l' r' t = omega (arith, ap length t.left.are, ap length t.right.are)
-fewer l r (Some x) (Some y) l' r' t = omega (arith, ap length t.left.are, ap length t.right.are)
 
 none_left : (next : Option Item) (items : List Item) → false ≡ is_some next → (next ≡ None → items ≡ []) → cons_option next items ≡ []
 none_left None items e g = g refl

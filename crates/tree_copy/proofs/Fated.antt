@@ -90,9 +90,6 @@ none_failed pairs t (row ∷ rows) h =
       | false ↦ λ _. none_failed pairs t rows h.1
     ] refl
 
-abbrev IsUnfailed : Entry × Row → Type 0
-IsUnfailed one = is_failed one.1.1 ≡ false
-
 -- what is known of an entry with its row
 record IsWell (files after : Files) (pairs : List Pair) (rows : List Row) (one : Entry × Row) : Type 0 where
   copied : IsCopied files after pairs rows one.0 one.1.1

@@ -1,5 +1,5 @@
 -- The items of entries, one by one.
-use Rattle.std.proofs.Common.{◌≡◌, ℕ, Bool, true, false, cond, List, [], ◌∷◌, ◌++◌, map, length, Option, Some, None, refl, ap, ◌∙◌, sym, subst}
+use Rattle.std.proofs.Common.{◌≡◌, ℕ, Bool, true, false, cond, List, [], ◌∷◌, map, length, Option, Some, None, refl, ap, ◌∙◌, sym, subst}
 use Rattle.std.proofs.Common.{is_some, not, slice_get, get_or, ◌<◌}
 use Rattle.std.proofs.lemmas.Option.{slice_get_read}
 use Rattle.std.specs.Prelude.{nat_le, IfSome}
@@ -69,30 +69,6 @@ added_by pairs e none k p f target is =
     (subst (λ o. IfSome o (λ (pair : Pair). is_within e.path pair.source ≡ true)) at f.within) target is
 
 -- the entries one after the other
-
-pub items_more : (pairs : List Pair) (xs ys : List Entry) → items_of pairs (xs ++ ys) ≡ items_of pairs xs ++ items_of pairs ys
-items_more pairs [] ys = refl
-items_more pairs (x ∷ xs) ys =
-    elim (is_some x.stat) as (λ s. map (item_of pairs) (filter (has_room pairs) (cond s (x ∷ treated (xs ++ ys)) (treated (xs ++ ys))))
-    ≡ map (item_of pairs) (filter (has_room pairs) (cond s (x ∷ treated xs) (treated xs))) ++ items_of pairs ys) [
-      | true ↦ elim (has_room pairs x) as (λ r. map (item_of pairs)
-          (cond r (x ∷ filter (has_room pairs) (treated (xs ++ ys))) (filter (has_room pairs) (treated (xs ++ ys))))
-          ≡ map (item_of pairs) (cond r (x ∷ filter (has_room pairs) (treated xs)) (filter (has_room pairs) (treated xs))) ++ items_of pairs ys) [
-            | true ↦ ap (λ r. item_of pairs x ∷ r) (items_more pairs xs ys)
-            | false ↦ items_more pairs xs ys
-          ]
-      | false ↦ items_more pairs xs ys
-    ]
-
-pub fits_more : (pairs : List Pair) (xs ys : List Entry) → map (has_room pairs) (treated (xs ++ ys)) ≡ map (has_room pairs) (treated xs) ++ map
-    (has_room pairs) (treated ys)
-fits_more pairs [] ys = refl
-fits_more pairs (x ∷ xs) ys =
-    elim (is_some x.stat) as (λ s. map (has_room pairs) (cond s (x ∷ treated (xs ++ ys)) (treated (xs ++ ys)))
-    ≡ map (has_room pairs) (cond s (x ∷ treated xs) (treated xs)) ++ map (has_room pairs) (treated ys)) [
-      | true ↦ ap (λ r. has_room pairs x ∷ r) (fits_more pairs xs ys)
-      | false ↦ fits_more pairs xs ys
-    ]
 
 -- an entry of a list that is known under another name
 pub source_of : (pairs : List Pair) (list same : List Entry) → same ≡ list → All (λ e. list_any (λ pair. is_within e.path pair.source) pairs ≡ true) list →

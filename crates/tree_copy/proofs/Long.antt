@@ -16,7 +16,7 @@ use Rattle.tree_copy.specs.Laws.{TargetsAreLong}
 use Rattle.tree_copy.specs.Placing.{overlap, target_in}
 use Rattle.tree_copy.specs.declared.pairs.Pair.{Pair}
 use Rattle.tree_copy.proofs.Apart.{across}
-use Rattle.tree_copy.proofs.Due.{are_due, targets_in, sources_in}
+use Rattle.tree_copy.proofs.Due.{are_due, targets_in}
 use Rattle.tree_copy.proofs.Ends.{own_apart}
 use Rattle.tree_copy.proofs.Overlaps.{meets, target}
 

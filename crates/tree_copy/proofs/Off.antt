@@ -1,14 +1,14 @@
 -- Paths of sources are no targets, and each has a target of its own.
-use Rattle.std.proofs.Common.{◌≡◌, ℕ, zero, suc, Bool, true, false, ◌||◌, List, [], ◌∷◌, map, Some, None, refl, ap, ◌∙◌, sym, subst, nat_eq, slice_get}
+use Rattle.std.proofs.Common.{◌≡◌, ℕ, zero, suc, Bool, true, false, List, [], ◌∷◌, map, Some, None, refl, ◌∙◌, sym, subst, nat_eq, slice_get}
 use Rattle.std.proofs.Common.{is_some}
 use Rattle.std.proofs.lemmas.Bool.{false≢true, or_left, or_right, or_from}
 use Rattle.std.proofs.lemmas.List.Elements.{All-filter, recursion_from_All}
-use Rattle.std.specs.List.{All, AllByRecursion, list_any}
+use Rattle.std.specs.List.{AllByRecursion, list_any}
 use Rattle.std.specs.Cmp.Lexicographic.{pointwise, bytes_decides}
 use Rattle.path_text.specs.Order.{is_within}
 use Rattle.path_text.specs.Path.{refusal}
 use Rattle.entry_pages.specs.declared.entries.Entry.{Entry}
-use Rattle.tree_copy.specs.Copying.{CanCopy, ends_of, target_of, treated}
+use Rattle.tree_copy.specs.Copying.{ends_of, target_of, treated}
 use Rattle.tree_copy.specs.Laws.{TargetsAreApart, is_in_source}
 use Rattle.tree_copy.specs.Placing.{IsPair, overlap}
 use Rattle.tree_copy.specs.declared.pairs.Pair.{Pair}

@@ -29,8 +29,8 @@ use Rattle.tree_copy.specs.Copying.{AreEarly, CanCopy, Copied, FitsTree, SameBut
 use Rattle.tree_copy.specs.Placing.{IsPair}
 use Rattle.tree_copy.specs.PrivateActs.{AllMayCopy}
 use Rattle.tree_copy.specs.PrivateDeeds.{CopyOne}
-use Rattle.tree_copy.specs.PrivateSettling.{any_odd, bytes_of, fates_of, fitting, gain, has_room, is_other, items_of, placed_of}
-use Rattle.tree_copy.specs.PrivateSettling.{rest_of, settled_by}
+use Rattle.tree_copy.specs.PrivateSettling.{any_odd, bytes_of, fates_of, fitting, has_room, is_other, items_of, placed_of}
+use Rattle.tree_copy.specs.PrivateSettling.{settled_by}
 use Rattle.tree_copy.proofs.Comes.{Comes, Row, all_come, are_early, are_marks, items_are, items_by, rows_by}
 use Rattle.tree_copy.proofs.Copies.{copied, others}
 use Rattle.tree_copy.proofs.Fits.{Known, are_items, makes_dirs, parent_short, stand_in}

@@ -5,7 +5,7 @@ use Rattle.std.proofs.Common.{refl, ap, ◌∙◌, sym, subst, slice_get, is_non
 use Rattle.std.proofs.lemmas.Bool.{false≢true, or_from}
 use Rattle.std.proofs.lemmas.List.Elements.{All-from_recursion}
 use Rattle.std.specs.Prelude.{Result, Ok, Err, IfOk}
-use Rattle.std.specs.List.{All, AllByRecursion, filter, zip}
+use Rattle.std.specs.List.{All, AllByRecursion, filter}
 use Rattle.path_text.specs.declared.errors.OutOfMemory.{OutOfMemory}
 use Rattle.outside.specs.Asked.{Asks, Write, Writes}
 use Rattle.outside.specs.Asked as asked
@@ -114,24 +114,6 @@ not_taken gives target x before off is = absurd (false≢true (sym off ∙ ap is
 pub written : {S : Type 0} (gives : Writes S) (target : List ℕ) (w : Write) (before after : S) → gives before target w (Ok tt) after →
     WasWritten gives target w
 written gives target w before after given = record { after = after; written = record { before = before; given = given } }
-
-pub looked : {R : Type 0} (asks : Asks R) (target : List ℕ) (wanted : Kind) (answer : Result (Option Stat) Failed) (f : Fate) (before after : R) →
-    asks before (asked.stat target answer) after → look_means wanted answer ≡ f → LookMeans asks target wanted f
-looked asks target wanted answer f before after given is = record {
-  before = before;
-  after = after;
-  told = record { answer = answer; given = given; is_meant = is };
-}
-
-pub was_read : {R : Type 0} (asks : Asks R) (source : List ℕ) (at : ℕ) (answer : Result ℕ ReadError) (f : Fate) (before after : R) →
-    asks before (asked.read source at answer) after → read_means answer ≡ Some f → ReadMeans asks source f
-was_read asks source at answer f before after given is = record {
-  at = at;
-  answer = answer;
-  after = after;
-  read = record { before = before; given = given };
-  means = is;
-}
 
 pub not_done : (f : Fate) → is_done f ≡ false → f ≢ fate.Done
 not_done f off is = false≢true (sym off ∙ ap is_done is)

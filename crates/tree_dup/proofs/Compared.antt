@@ -78,13 +78,6 @@ compared tree count gives r r' size base run run' digest standings e alike went 
       (ap (λ fs. is_other (get_or fs 0 d)) e ∙ ap standing_other (still_alike base alike 0 d l));
 }
 
-pub stand_from : {S : Type 0} (tree : Option Files) (gives : Asks S) (files slice : List File) (place n : ℕ) (c : Comparison) →
-    slice ≡ take n (drop place files) → n ≤ length (drop place files) → length c.standings.items ≡ length slice →
-    AreStandings tree gives (map still slice) c.digest c.standings.items → StandFrom tree gives files place c
-stand_from tree gives files slice place n c e inside as_many h =
-    let long : length c.standings.items ≡ n = as_many ∙ ap (λ (fs : List File). length fs) e ∙ length-take-le n (drop place files) inside in
-    subst (λ fs. AreStandings tree gives (map still fs) c.digest c.standings.items) (e ∙ (λ i. take (sym long i) (drop place files))) h
-
 -- the standings of a run that was cut off the end
 pub stand_for : {S : Type 0} (tree : Option Files) (gives : Asks S) (files whole run : List File) (start : ℕ) (c : Comparison) →
     files ≡ take (length files) whole → run ≡ drop start files → start ≤ length files → map still run ≡ run →

@@ -8,7 +8,6 @@ use Rattle.std.specs.Cmp.{first_so}
 use Rattle.std.specs.Cmp.Lexicographic.{pointwise}
 use Rattle.std.specs.Option.{option_map}
 use Rattle.std.proofs.lemmas.Bool.{false≢true, eq-eqb, ne_eqb, ltb-false}
-use Rattle.std.proofs.lemmas.Bool.Decides.{nat_tests}
 use Rattle.std.proofs.lemmas.List.{map-append, take_all}
 use Rattle.std.proofs.lemmas.List.Elements.{All-nil, All-push}
 use Rattle.std.proofs.lemmas.List.Folds.{list_any_at}
@@ -177,11 +176,6 @@ pub one_size : (e : Entry) (size n : ℕ) → file_size e ≡ Some n → is_size
 one_size e size n is =
     let both = candidate_if (is_of kind.File e.stat) (size_by e.stat) n is in
     λ i. both.0 i && (both.1 i == size)
-
--- a size that more than one file has
-pub is_shared : (list : List Entry) (e : Entry) (n : ℕ) → n ≡ min (count_by (is_sized (size_by e.stat)) list) 255 →
-    nat_lt 1 n ≡ nat_lt 1 (count_by (is_sized (size_by e.stat)) list)
-is_shared list e n is = grind (arith, nat_tests)
 
 pub entry_last : (list : List Entry) (cursor : List Entry × ℕ) (more : Bool) → cursor.0 ≡ list → cursor.1 ≤ length list →
     more ≡ nat_lt cursor.1 (length cursor.0) →

@@ -102,8 +102,3 @@ module _ {R : Type 0} (tree : R → Option Files) (count : R → ℕ) (gives : A
     shows = λ h. shows;
     idle = λ not. absurd (false≢true (sym not ∙ a));
   }
-
-  -- one file was read, where x is what stands at its place
-  pub went_at : (r r' r'' : R) (xs ys : List File) (k : ℕ) (x f : File) → k < length ys → x ≡ get_or ys k x → Went tree count gives r r' xs ys →
-      Moved tree count gives r' r'' x f → Went tree count gives r r'' xs (set ys k f)
-  went_at r r' r'' xs ys k x f inside e w m = went_set r r' r'' xs ys k f x inside w (subst (λ y. Moved tree count gives r' r'' y f) e m)

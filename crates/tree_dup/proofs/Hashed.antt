@@ -42,8 +42,6 @@ behind j k l ne = by (j - k) refl
 -- ---- a candidate leaves
 
 module _ (files : List File) (k : ℕ) (f : File) (inside : k < length files) where
-  left : List File
-  left = swap_remove files k f
 
   length_left : length (swap_remove files k f) + 1 ≡ length files
   length_left =

@@ -64,19 +64,6 @@ pub only_last : (files : List File) (last : ℕ) → length files ≡ last + 1 �
 only_last files last e k d l m =
     key_same (get_or files k d) (get_or files last d) (ap (λ i. key (get_or files i d)) (let i : k ≡ last = omega arith in i))
 
-pub one_more : (files : List File) (start last : ℕ) (x y : File) → start < length files → last < length files → x ≡ get_or files start x →
-    y ≡ get_or files last y →
-    same_content x y ≡ true → AreFrom files (start + 1) last → AreFrom files start last
-one_more files start last x y l m e f same h k d n inside = by (k - start) refl
-  where
-    by : (j : ℕ) → k - start ≡ j → same_content (get_or files k d) (get_or files last d) ≡ true
-    by zero z =
-        let at : k ≡ start = omega (arith, z) in
-        let a : get_or files k d ≡ x = ap (λ i. get_or files i d) at ∙ get_or_default files start d x l ∙ sym e in
-        let b : get_or files last d ≡ y = get_or_default files last d y m ∙ sym f in
-        (λ i. same_content (a i) (b i)) ∙ same
-    by (suc j) z = h k d (omega (arith, z)) inside
-
 pub last_run : (files : List File) (start last : ℕ) (x y : File) → IsSorted content_cmp files → length files ≡ last + 1 → start ≤ last →
     AreFrom files start last →
     (0 < start → (x ≡ get_or files (start - 1) x) × (y ≡ get_or files last y) × (same_content x y ≡ false)) → IsLastRun files start

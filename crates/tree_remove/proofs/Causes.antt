@@ -1,9 +1,9 @@
 -- What shows the fate of each removal.
-use Rattle.std.proofs.Common.{◌≡◌, ◌≢◌, ◌∙◌, ℕ, ◌<◌, List, [], ◌∷◌, length, map, get_or, Some, IfOk, refl, ap, sym, subst, arith, slice_get}
+use Rattle.std.proofs.Common.{◌≡◌, ◌≢◌, ◌∙◌, ℕ, ◌<◌, List, length, map, get_or, Some, IfOk, ap, sym, subst, arith, slice_get}
 use Rattle.std.proofs.lemmas.List.{length-map, get_or-map}
 use Rattle.std.proofs.lemmas.Option.{slice_get-get_or}
 use Rattle.std.proofs.lemmas.Slice.Zip.{length-zip, get_or-zip}
-use Rattle.std.specs.List.{All, zip}
+use Rattle.std.specs.List.{zip}
 use Rattle.std.specs.Prelude.{Result, Ok, Err}
 use Rattle.path_text.specs.declared.errors.OutOfMemory.{OutOfMemory}
 use Rattle.outside.specs.Asked.{Writes}

@@ -1,13 +1,13 @@
 -- A removal, seen at and under its path.
 use Rattle.std.proofs.Common.{◌≡◌, ◌≢◌, inl, inr, ℕ, ◌<◌, Bool, true, false, cond, not, ◌||◌, ◌&&◌, List, [], ◌∷◌, length, Option, Some, None, IfSome}
-use Rattle.std.proofs.Common.{IfOk, refl, ap, ◌∙◌, sym, subst, arith, nat_eq, is_some, is_none}
+use Rattle.std.proofs.Common.{IfOk, refl, ap, ◌∙◌, sym, subst, arith, is_some, is_none}
 use Rattle.std.specs.Prelude.{◌==◌, Result, Ok, Err, IsTrue}
 use Rattle.std.proofs.lemmas.Bool.{false≢true}
 use Rattle.std.proofs.lemmas.Bool.Decides.{nat_tests}
 use Rattle.std.specs.List.{filter_map, list_any, cons_option}
 use Rattle.std.specs.FinMap.{get, remove, keys, get-remove, contains_key-keys, same_map}
 use Rattle.std.specs.Ordering.{eq_by_cmp}
-use Rattle.std.specs.Cmp.Lexicographic.{pointwise, bytes_decides}
+use Rattle.std.specs.Cmp.Lexicographic.{bytes_decides}
 use Rattle.path_text.specs.declared.errors.OutOfMemory.{OutOfMemory}
 use Rattle.path_text.specs.Order.{path_cmp, is_within}
 use Rattle.path_text.specs.Total.{path_cmp_total, path_cmp_ties, path_cmp_same}

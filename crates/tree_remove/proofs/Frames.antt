@@ -1,9 +1,8 @@
 -- A map at and under a path, and with one node put into it.
-use Rattle.std.proofs.Common.{◌≡◌, ℕ, true, false, cond, ◌||◌, List, Option, Some, None, refl, ap, ◌∙◌, sym, nat_eq}
+use Rattle.std.proofs.Common.{◌≡◌, ℕ, true, cond, ◌||◌, List, Option, Some, None, refl, ap, ◌∙◌, sym, nat_eq}
 use Rattle.std.specs.FinMap.{get, get-insert, get-remove, get-retain_keys}
-use Rattle.std.specs.Ordering.{eq_by_cmp}
 use Rattle.std.specs.Cmp.Lexicographic.{pointwise, bytes_decides}
-use Rattle.path_text.specs.Order.{path_cmp, is_within, is_under}
+use Rattle.path_text.specs.Order.{is_within, is_under}
 use Rattle.path_text.specs.Total.{path_cmp_total, path_cmp_ties, path_cmp_same}
 use Rattle.outside.specs.Tree.{Files, Node}
 use Rattle.level_work.specs.Acts.{at_and_under}

@@ -7,7 +7,7 @@ use Rattle.std.specs.Prelude.{◌==◌}
 use Rattle.std.specs.List.{filter_map, list_any, starts_with, cons_option}
 use Rattle.std.specs.FinMap.{get, keys, contains_key-keys}
 use Rattle.std.specs.Ordering.{eq_by_cmp}
-use Rattle.std.specs.Cmp.Lexicographic.{pointwise, bytes_decides}
+use Rattle.std.specs.Cmp.Lexicographic.{pointwise}
 use Rattle.path_text.specs.Order.{path_cmp, is_within, is_under, front}
 use Rattle.path_text.specs.Total.{path_cmp_ties}
 use Rattle.outside.specs.Tree.{Files, names_in, name_below}

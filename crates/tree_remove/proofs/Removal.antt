@@ -2,7 +2,7 @@
 use Rattle.std.proofs.Common.{◌≡◌, ◌≢◌, ◌⊎◌, inl, inr, ℕ, ◌<◌, Bool, true, false, cond, List, length, Option, Some, None, refl, ap, ◌∙◌, sym, subst}
 use Rattle.std.proofs.Common.{arith, is_some, is_none}
 use Rattle.std.proofs.lemmas.Bool.{false≢true}
-use Rattle.std.specs.FinMap.{get, remove}
+use Rattle.std.specs.FinMap.{get}
 use Rattle.path_text.specs.Order.{is_under}
 use Rattle.path_text.specs.Path.{refusal}
 use Rattle.outside.specs.Tree.{Files, Node, Body, dir, file, link, other, is_dir, is_dir_body, far_at, far_of, names_in}
@@ -16,7 +16,7 @@ use Rattle.level_work.specs.declared.items.Item.{Item}
 use Rattle.level_work.specs.declared.items.Fate.{Fate}
 use Rattle.level_work.specs.declared.items.Fate.TheVariants as fate
 use Rattle.level_work.specs.declared.items.Order.TheVariants as order
-use Rattle.tree_remove.specs.PrivateDeeds.{Removal, removal_refusal}
+use Rattle.tree_remove.specs.PrivateDeeds.{Removal}
 use Rattle.tree_remove.specs.Removing.{WasChosen, HasUnder, NothingUnder}
 use Rattle.tree_remove.proofs.Answers.{IsOdd, dir_goes, dir_full, file_full, dir_odd, file_odd, no_far, far_or_some}
 use Rattle.tree_remove.proofs.Frames.{get_here, get_with, itself, removed_here}

@@ -1,15 +1,14 @@
 -- Work from the bottom up by removals removes what was chosen and nothing else.
 use Rattle.std.proofs.Common.{◌≡◌, ◌≢◌, ℕ, zero, suc, ◌+◌, ◌<◌, ◌≤◌, ◌-◌, ◌^◌, Bool, true, false, ◌||◌, List, [], ◌∷◌, map, length, Option, Some}
-use Rattle.std.proofs.Common.{None, IfSome, refl, ap, ◌∙◌, sym, subst, arith, nat_eq, is_some, slice_get, get_or, min, nat_lt}
+use Rattle.std.proofs.Common.{None, IfSome, refl, ap, ◌∙◌, sym, subst, arith, nat_eq, slice_get, get_or, min, nat_lt}
 use Rattle.std.proofs.lemmas.List.{length-map, get_or-map}
 use Rattle.std.proofs.lemmas.Bool.Decides.{nat_tests}
 use Rattle.std.proofs.lemmas.List.Sums.{sum-map, sum_by-cons}
-use Rattle.std.proofs.lemmas.Option.{slice_get-get_or, get_or_from_slice_get}
-use Rattle.std.proofs.lemmas.Slice.Zip.{firsts-zip, seconds-zip, length-zip, get_or-zip}
-use Rattle.std.specs.Prelude.{Result, Ok, Err, IsTrue, IfOk, OnErr, sum}
-use Rattle.std.specs.List.{All, zip, list_any, count_by}
+use Rattle.std.proofs.lemmas.Option.{slice_get-get_or}
+use Rattle.std.proofs.lemmas.Slice.Zip.{firsts-zip, length-zip, get_or-zip}
+use Rattle.std.specs.Prelude.{sum}
+use Rattle.std.specs.List.{All, zip, list_any}
 use Rattle.std.specs.Cmp.Lexicographic.{pointwise}
-use Rattle.path_text.specs.declared.errors.OutOfMemory.{OutOfMemory}
 use Rattle.path_text.specs.Path.{refusal}
 use Rattle.outside.specs.Count.{RoseBy}
 use Rattle.outside.specs.Parts.{IsTreeIn, UnderDirectories}

@@ -1,6 +1,6 @@
 -- Each chosen path goes, where all that stands under it is chosen and no removal failed.
 use Rattle.std.proofs.Common.{◌≡◌, ⊎_elim, ℕ, zero, suc, ◌+◌, ◌<◌, ◌≤◌, Bool, true, false, cond, ◌||◌, ◌&&◌, List, [], ◌∷◌, ◌++◌, length, map}
-use Rattle.std.proofs.Common.{refl, ap, ◌∙◌, sym, subst, arith, nat_eq, nat_lt, is_some, get_or, length-append}
+use Rattle.std.proofs.Common.{refl, ap, ◌∙◌, sym, arith, nat_eq, nat_lt, is_some, get_or, length-append}
 use Rattle.std.proofs.lemmas.Bool.{false≢true, or_left, or_right}
 use Rattle.std.proofs.lemmas.Bool.Decides.{nat_tests}
 use Rattle.std.proofs.lemmas.List.Elements.{All-from_recursion}

@@ -12,7 +12,6 @@ use Rattle.std.specs.declared.cmp.Ordering.TheVariants.{Less, Equal, Greater}
 use Rattle.std.proofs.Math.Seq.{drop-cons, take-suc}
 use Rattle.std.proofs.lemmas.Bool.{false≢true, false_from_ne_true, or_from, or_right}
 use Rattle.std.proofs.lemmas.List.{drop_all, get_or-map, length-map}
-use Rattle.std.proofs.lemmas.List.Folds.{list_any_at}
 use Rattle.std.proofs.lemmas.List.Elements.{recursion_from_All, All-push}
 use Rattle.path_text.specs.Order.{path_cmp, is_under, is_within, IsPreorder, UnderIsContiguous}
 use Rattle.path_text.specs.Path.{refusal}
@@ -116,10 +115,6 @@ cleared_any (m ∷ masks) (suc at) q h = (λ i. h.0.off i || list_any (is_within
 
 any_at : (masks : List (List ℕ)) (at : ℕ) (q : List ℕ) → IsCleared masks at q → list_any (is_within q) masks ≡ list_any (is_within q) (drop at masks)
 any_at masks at q h = cleared_any masks at q (recursion_from_All (IsBehind q) (take at masks) h.behind)
-
-pub masked_here : (masks : List (List ℕ)) (at : ℕ) (q x : List ℕ) → at < length masks → x ≡ get_or masks at x → is_within q x ≡ true →
-    list_any (is_within q) masks ≡ true
-masked_here masks at q x l is e = list_any_at (is_within q) masks at x l (ap (is_within q) (sym is) ∙ e)
 
 pub masked_none : (masks : List (List ℕ)) (at : ℕ) (q : List ℕ) → IsCleared masks at q → length masks ≤ at → list_any (is_within q) masks ≡ false
 masked_none masks at q h l = any_at masks at q h ∙ ap (list_any (is_within q)) (drop_all at masks l)

@@ -1,12 +1,12 @@
 -- The steps of a sync together.
-use Rattle.std.proofs.Common.{◌≡◌, ℕ, ◌+◌, Bool, List, [], ◌∷◌, map, length, Option, Some, None, IfSome, refl, ap, ◌∙◌}
+use Rattle.std.proofs.Common.{◌≡◌, ℕ, ◌+◌, Bool, List, [], ◌∷◌, map, length, Option, Some, None, IfSome, ap, ◌∙◌}
 use Rattle.std.proofs.Common.{sym, subst, arith, is_some}
 use Rattle.std.specs.List.{All, count_by}
 use Rattle.std.proofs.lemmas.Bool.{false≢true}
 use Rattle.std.proofs.lemmas.List.Elements.{All-map}
 use Rattle.outside.specs.Asked.{Asks}
 use Rattle.outside.specs.Count.{RoseBy}
-use Rattle.outside.specs.Tree.{Files, IsTree, NodesHavePaths}
+use Rattle.outside.specs.Tree.{Files, IsTree}
 use Rattle.entry_pages.specs.declared.entries.Entry.{Entry}
 use Rattle.flat_list.specs.Spelling.{paths}
 use Rattle.level_work.specs.Counts.{is_failed}
@@ -93,14 +93,6 @@ module _ {pair : Pair} {source dest : List Entry} {delete : Bool} {tree now : Op
       by None (Some mid) f i c e h = absurd (false≢true (sym e))
       by (Some before) (Some mid) f i c e h =
           fits_copy b.law pair source dest delete found before mid i (record { known = b.known; fits = f; compared = c; others = h })
-
-  -- every path off the target is as before
-  pub rest_same : IfSome tree (λ before. IfSome now (SameOutside pair.target before))
-  rest_same = subst (λ t. IfSome tree (λ before. IfSome t (SameOutside pair.target before))) (sym b.same) (by tree)
-    where
-      by : (t : Option Files) → IfSome t (λ before. IfSome t (SameOutside pair.target before))
-      by None = tt
-      by (Some files) = λ q off. refl
 
   pub rest_removed : (mid : Option Files) → Left mid → IfSome tree (λ before. IfSome mid (SameOutside pair.target before))
   rest_removed mid left = by tree mid (left_of mid left)

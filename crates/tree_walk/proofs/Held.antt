@@ -100,12 +100,3 @@ kept_alone es ls e l es' pe y nothing =
 pub entries_held : (es : List Entry) (ls : List Listing) → entries_of (held_of es ls) ≡ es
 entries_held [] ls = refl
 entries_held (e ∷ es) ls = ap (λ r. e ∷ r) (entries_held es (cond (is_listed e) (drop 1 ls) ls))
-
-pub more_listed : (es es' : List Entry) (e : Entry) → es' ≡ es ++ e ∷ [] → is_listed e ≡ true → count_by is_listed es' ≡ count_by is_listed es + 1
-more_listed es es' e p y = ap (count_by is_listed) p ∙ sum_by_push listed es e ∙ ap (λ b. count_by is_listed es + cond b 1 0) y
-
-pub as_listed : (es es' : List Entry) (e : Entry) → es' ≡ es ++ e ∷ [] → is_listed e ≡ false → count_by is_listed es' ≡ count_by is_listed es
-as_listed es es' e p y =
-    let n : count_by is_listed es' ≡ count_by is_listed es + 0 =
-    ap (count_by is_listed) p ∙ sum_by_push listed es e ∙ ap (λ b. count_by is_listed es + cond b 1 0) y in
-    omega (arith, n)

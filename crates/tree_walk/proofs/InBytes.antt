@@ -8,26 +8,7 @@ use Rattle.std.proofs.lemmas.Bool.Decides.{nat_tests}
 use Rattle.path_text.specs.Path.{refusal}
 use Rattle.path_text.specs.Order.{front}
 use Rattle.tree_walk.specs.Roots.{is_in}
-use Rattle.tree_walk.proofs.Inside.{begins, begins_is, begins-length, is_in_is, first_slash}
-
-same_start : (a b : ℕ) → a ≡ 47 → b ≡ 47 → (a == b && true) ≡ true
-same_start a b e d = grind (arith, nat_tests)
-
-begins_one : (a b : ℕ) (x : List ℕ) → a ≡ 47 → b ≡ 47 → begins (a ∷ []) (front (b ∷ x)) ≡ true
-begins_one a b x e d = elim (length (b ∷ x) == 1) as (λ c. begins (a ∷ []) (cond c (b ∷ x) (b ∷ x ++ 47 ∷ [])) ≡ true) [
-  | true ↦ same_start a b e d
-  | false ↦ same_start a b e d
-]
-
--- all paths are in `/`
-pub in_root : (x p : List ℕ) → refusal x ≡ None → refusal p ≡ None → (length p == 1) ≡ true → is_in x p ≡ true
-in_root x [] r v e = cc
-in_root [] (a ∷ p) r v e = cc
-in_root (b ∷ x) (a ∷ []) r v e = is_in_is (b ∷ x) (a ∷ []) ∙ begins_one a b x (first_slash a [] v) (first_slash b x r)
-in_root (b ∷ x) (a ∷ c ∷ p) r v e = absurd (many (length p) e)
-  where
-    many : (n : ℕ) → (suc (suc n) == 1) ≡ true → ⊥
-    many n e = grind (arith, nat_tests)
+use Rattle.tree_walk.proofs.Inside.{begins, begins_is, begins-length, is_in_is}
 
 -- the path p, and then its end or a slash
 abbrev AtEnd : List ℕ → List ℕ → Bool

@@ -93,10 +93,6 @@ front_same (a ∷ c ∷ x) (b ∷ []) v w e =
     absurd (omega (arith, ap length same))
 front_same (a ∷ c ∷ x) (b ∷ d ∷ y) v w e = more_behind (a ∷ c ∷ x) (b ∷ d ∷ y) 47 (sym (front_of_two a c x) ∙ e ∙ front_of_two b d y)
 
--- a path begins with a slash
-pub first_slash : (b : ℕ) (bytes : List ℕ) → refusal (b ∷ bytes) ≡ None → b ≡ 47
-first_slash b bytes r = grind (arith, nat_tests)
-
 -- ---- paths
 
 -- x is the path p or under it

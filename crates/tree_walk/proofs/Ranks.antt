@@ -1,7 +1,7 @@
 -- What the jobs of all ranks hold together.
 use Rattle.std.proofs.Common.{◌≡◌, ℕ, ◌+◌, ◌-◌, ◌^◌, ◌<◌, min, true, List, [], ◌∷◌, ◌++◌, map, length, refl, ap, ◌∙◌, sym, subst, arith, Option, Some, None}
 use Rattle.std.proofs.Common.{IfSome, length-append, append-nil}
-use Rattle.std.specs.List.{AllByRecursion, All, sum_by, flat_map}
+use Rattle.std.specs.List.{AllByRecursion, sum_by, flat_map}
 use Rattle.std.specs.List.Sorted.{IsPermutation, IsSortedByKey}
 use Rattle.path_text.specs.Order.{path_cmp}
 use Rattle.std.proofs.lemmas.List.Sorted.{sum_by-IsPermutation}
@@ -25,13 +25,6 @@ use Rattle.tree_walk.proofs.Lists.{all_flat}
 use Rattle.tree_walk.proofs.Once.{IsGathered, list_rises, list_within, sum_by-map}
 use Rattle.tree_walk.proofs.AnyOrder.{whole, valid_files, moved, to_entries, ones}
 use Rattle.tree_walk.proofs.Cuts.{is_cut, valid_done, gathered_beside, left_apart, done_beside, all_within}
-
-pub unused_logs : {R : Type 0} (jobs : List (R × List Held)) → AllByRecursion (λ job. job.1 ≡ []) jobs → All (λ job. log_of job.1 ≡ []) jobs
-unused_logs jobs h = All-from_recursion (λ job. log_of job.1 ≡ []) jobs (each jobs h)
-  where
-    each : {R : Type 0} (jobs : List (R × List Held)) → AllByRecursion (λ job. job.1 ≡ []) jobs → AllByRecursion (λ job. log_of job.1 ≡ []) jobs
-    each [] h = tt
-    each (j ∷ jobs) h = (ap log_of h.0, each jobs h.1)
 
 pub all_logs : {R : Type 0} (jobs : List (R × List Held)) → flat_map (λ job. log_of job.1) jobs ≡ log_of (flat_map (λ job. job.1) jobs)
 all_logs [] = refl

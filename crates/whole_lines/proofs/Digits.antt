@@ -3,7 +3,7 @@ use Rattle.std.proofs.Common.{◌≡◌, ◌≢◌, ℕ, ◌+◌, ◌-◌, ◌*�
 use Rattle.std.proofs.Common.{refl, ap, sym, ◌∙◌, arith}
 use Rattle.std.specs.Str.Parse.{digits_value, AllDigits}
 use Rattle.std.specs.Fmt.{decimal}
-use Rattle.std.specs.Char.{digit_value, is_ascii_digit}
+use Rattle.std.specs.Char.{is_ascii_digit}
 use Rattle.std.proofs.lemmas.Bool.Decides.{nat_tests}
 use Rattle.std.proofs.lemmas.Fmt.{decimal-digits_value}
 use Rattle.std.proofs.lemmas.Int.Digits.{digits_more, digits_value_more, digits_value-lt}
@@ -65,9 +65,6 @@ number_word text digits are some short lead =
     let same : decimal (digits_value 10 word) ≡ word =
     decimal-digits_value own word are.each (omega (arith, long)) (λ zero. long ∙ lead (sym first ∙ zero)) small in
     ap number_of (sym same) ∙ number_again (digits_value 10 word) small ∙ ap Some (sym are.value)
-
-no_space : (c : ℕ) → digit_value c < 10 → (48 ≤ c) × (c ≤ 57) → eqb c 32 ≡ false
-no_space c h byte = grind (arith, nat_tests)
 
 cut_word : (text : List ℕ) (digits : Digits) → AreDigits text digits → digits.len < length text → get_or text digits.len 0 ≡ 32 →
     cut 32 text ≡ Some (take digits.len text, drop (digits.len + 1) text)

@@ -65,11 +65,6 @@ cut_takes c (b ∷ text) word rest e =
           cut_later c b text word rest found.0 is (cut_takes c text found.0 rest found.1) found.2
     ] refl e
 
-pub cut_none : (c : ℕ) (text word rest : List ℕ) → cut c text ≡ None → IsFree c word → text ≡ word ++ c ∷ rest → ⊥
-cut_none c text word rest e free is =
-    let again : cut c text ≡ Some (word, rest) = ap (cut c) is ∙ cut_again c word rest free in
-    cc
-
 -- the place of the byte, as the code finds it
 
 -- a place of the byte before which none is

@@ -1,8 +1,7 @@
 -- A share of a level on a ground. Our own.
 use Rattle.std.specs.Prelude.{◌≡◌, ℕ, ◌<◌, true, false, List, length, Some, slice_get}
-use Rattle.std.specs.FinMap.{get}
-use Rattle.path_text.specs.Path.{level_of, parent_of}
-use Rattle.outside.specs.Tree.{Files, is_dir, is_root}
+use Rattle.path_text.specs.Path.{level_of}
+use Rattle.outside.specs.Tree.{is_root}
 use Rattle.level_work.specs.Private.Lots.{IsAt, AreApart}
 use Rattle.level_work.specs.declared.items.Item.{Item}
 
@@ -22,7 +21,3 @@ pub record IsShare (items : List Item) (places : List ℕ) : Type 0 where
   pub apart : AreApart items places
   pub one_level : (i j : ℕ) (x y : Item) → IsAt items places i x → IsAt items places j y → level_of x.path ≡ level_of y.path
   pub no_root : (j : ℕ) (x : Item) → IsAt items places j x → is_root x.path ≡ false
-
--- each item's parent is a directory
-abbrev pub StandInDirs : List Item → List ℕ → Files → Type 0
-StandInDirs items places files = (j : ℕ) (x : Item) → IsAt items places j x → is_dir (get files (parent_of x.path)) ≡ true

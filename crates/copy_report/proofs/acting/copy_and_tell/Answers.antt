@@ -1,9 +1,6 @@
-use Rattle.std.proofs.Common.{◌≡◌, ◌∙◌, ◌∷◌, ap, length, subst, sym}
-use Rattle.std.specs.List.{count_by}
+use Rattle.std.proofs.Common.{◌∙◌, ap, length, subst}
 use Rattle.tool_text.specs.NoteOrder.{AreInOrder}
 use Rattle.tool_text.specs.Notes.{note_lines}
-use Rattle.level_work.specs.Counts.{is_done}
-use Rattle.tree_copy.specs.Copying.{bytes_copied}
 use Rattle.run_report.specs.Sides.{side_of}
 use Rattle.copy_report.specs.Copying.{copied_line, copy_failures}
 use Rattle.copy_report.proofs.Steps.{items_are}

@@ -1,4 +1,4 @@
-use Rattle.std.proofs.Common.{arith, rules, ◌≡◌, ◌≤◌, ◌∙◌, List, length, filter, ap, subst}
+use Rattle.std.proofs.Common.{arith, ◌≤◌, ◌∙◌, List, length, filter, ap, subst}
 use Rattle.std.proofs.lemmas.Bool.Decides.{nat_tests}
 use Rattle.std.proofs.lemmas.List.{take_all}
 use Rattle.entry_pages.specs.declared.entries.Entry.{Entry}

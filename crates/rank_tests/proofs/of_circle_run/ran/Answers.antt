@@ -1,4 +1,3 @@
-use Rattle.std.proofs.Common.{◌≡◌}
 use Rattle.rank_tests.proofs.of_circle_run.ran.Goals as goal
 
 pub begin-requires-clause-unused : goal.begin-requires-clause-unused

@@ -1,4 +1,4 @@
-use Rattle.std.proofs.Common.{◌≡◌, ◌-◌, ℕ, Some, ap, false, refl, arith}
+use Rattle.std.proofs.Common.{◌≡◌, ◌-◌, ℕ, Some, ap, refl, arith}
 use Rattle.post_board.specs.Fresh.{fresh}
 use Rattle.post_board.specs.Shown.{Shown}
 use Rattle.post_board.specs.BoardSeats.{IsSeat, shown_by, unused}

@@ -1,4 +1,4 @@
-use Rattle.std.proofs.Common.{◌≡◌, ◌∙◌, ◌++◌, ap, length, subst}
+use Rattle.std.proofs.Common.{◌∙◌, ◌++◌, ap, length, subst}
 use Rattle.tool_text.specs.Lines.{lines_of}
 use Rattle.tool_text.specs.NoteOrder.{AreInOrder}
 use Rattle.tool_text.specs.Notes.{note_lines}

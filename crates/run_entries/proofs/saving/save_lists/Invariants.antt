@@ -1,4 +1,4 @@
-use Rattle.std.proofs.Common.{◌≡◌, take, []}
+use Rattle.std.proofs.Common.{◌≡◌, take}
 use Rattle.outside.specs.Count.{RoseBy}
 use Rattle.outside.specs.Writes.{nothing_lent}
 use Rattle.run_entries.specs.Saving.{Saved}

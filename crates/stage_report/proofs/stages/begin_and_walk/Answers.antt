@@ -1,4 +1,4 @@
-use Rattle.std.proofs.Common.{rules, ◌∙◌, inl, inr, subst}
+use Rattle.std.proofs.Common.{rules, ◌∙◌, subst}
 use Rattle.std.specs.Option.{option_map}
 use Rattle.run_report.specs.Sides.{side_of}
 use Rattle.stage_report.specs.Private.{IsStage, StopsWalk, WalksNot}

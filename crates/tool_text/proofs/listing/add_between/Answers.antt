@@ -1,7 +1,5 @@
-use Rattle.std.proofs.Common.{◌≡◌, ◌<◌, ◌∙◌, ◌+◌, ◌++◌, [], ◌∷◌, true, nat_lt, length, take, append_assoc, append-nil, ap, sym, subst, arith, rules}
-use Rattle.std.proofs.lemmas.Bool.Decides.{nat_tests}
-use Rattle.tool_text.specs.Lines.{line_of, lines_between}
-use Rattle.tool_text.proofs.Between.{between_none, between_more}
+use Rattle.std.proofs.Common.{◌∙◌, ◌+◌, ◌++◌, append-nil, ap, sym, arith, rules}
+use Rattle.tool_text.proofs.Between.{between_none}
 use Rattle.tool_text.proofs.listing.add_between.Goals as goal
 
 pub loop-init : goal.loop-init

@@ -1,4 +1,4 @@
-use Rattle.std.proofs.Common.{rules, ◌+◌, ◌≤◌, ap, inl, inr, refl, subst, sym, ◌∙◌, arith, length, take, drop, IfSome}
+use Rattle.std.proofs.Common.{rules, ◌+◌, ◌≤◌, ap, inr, subst, ◌∙◌, arith, length, take, drop, IfSome}
 use Rattle.std.proofs.lemmas.List.{length-take-le, take-append-le}
 use Rattle.outside.specs.Asked as asked
 use Rattle.outside.specs.Tree.{Reads}

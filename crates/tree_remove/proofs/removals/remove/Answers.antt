@@ -1,4 +1,4 @@
-use Rattle.std.proofs.Common.{◌≡◌, ◌∙◌, refl, ap, sym, subst, length, map, IfSome, []}
+use Rattle.std.proofs.Common.{◌∙◌, refl, ap, sym, subst, length, map, IfSome}
 use Rattle.std.specs.List.{count_by, zip}
 use Rattle.outside.specs.Parts.{IsTreeIn}
 use Rattle.level_work.specs.Counts.{is_failed}

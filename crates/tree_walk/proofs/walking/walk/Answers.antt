@@ -1,4 +1,4 @@
-use Rattle.std.proofs.Common.{◌≡◌, ◌∙◌, ap, sym, subst, arith, ◌<◌, ◌-◌, ◌^◌, [], length}
+use Rattle.std.proofs.Common.{◌≡◌, ◌∙◌, ap, sym, subst, arith, ◌-◌, ◌^◌, [], length}
 use Rattle.std.specs.List.{flat_map, sum_by, All}
 use Rattle.circle_run.specs.Left.{all_left}
 use Rattle.tree_walk.specs.declared.reports.Walked.TheVariants as walked

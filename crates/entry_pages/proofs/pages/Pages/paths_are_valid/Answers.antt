@@ -1,4 +1,4 @@
-use Rattle.std.proofs.Common.{◌≡◌, true, None, List, ℕ, subst}
+use Rattle.std.proofs.Common.{◌≡◌, None, subst}
 use Rattle.std.specs.List.{All}
 use Rattle.path_text.specs.Path.{refusal}
 use Rattle.entry_pages.specs.declared.entries.Entry.{Entry}
