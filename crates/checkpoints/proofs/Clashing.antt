@@ -1,13 +1,11 @@
 -- Which done entries clash with a path, told by those that were passed before it and by the first one that was not.
-use Rattle.std.proofs.Common.{◌≡◌, ℕ, ◌<◌, Bool, true, false, not, ◌&&◌, ◌||◌, List, [], ◌∷◌, ◌++◌, length, refl, ap, ◌∙◌, sym, subst, arith, cond}
-use Rattle.std.proofs.Common.{Option, Some, None}
+use Rattle.std.proofs.Common.{◌≡◌, ℕ, ◌<◌, Bool, true, false, not, ◌&&◌, ◌||◌, List, [], ◌∷◌, ◌++◌, length, refl, ap, ◌∙◌, sym, subst, cond}
+use Rattle.std.proofs.Common.{Option, Some}
 use Rattle.std.specs.List.{AllByRecursion, list_any}
 use Rattle.std.specs.List.Sorted.{IsStrictlySortedBy}
 use Rattle.std.specs.Ordering.{is_lt, ordering_reverse}
-use Rattle.std.specs.declared.cmp.Ordering.{Ordering}
-use Rattle.std.specs.declared.cmp.Ordering.TheVariants.{Less, Equal, Greater}
+use Rattle.std.specs.declared.cmp.Ordering.TheVariants.{Less}
 use Rattle.std.proofs.lemmas.Bool.{false≢true}
-use Rattle.path_text.specs.Path.{refusal}
 use Rattle.path_text.specs.Order.{path_cmp}
 use Rattle.path_text.specs.Total.{path_cmp_total}
 use Rattle.entry_pages.specs.declared.entries.Entry.{Entry}
@@ -19,10 +17,7 @@ use Rattle.checkpoints.specs.Passing.{Behind, AllBehind, covered, top_with, IsTo
 use Rattle.checkpoints.specs.Passing.{IsBelow, ArePassed, StartsBehind, starts_in, moved, first_of}
 use Rattle.checkpoints.proofs.Tops.{between, behind_trans, behind_in, same_place, less_out, top_push}
 use Rattle.outside.proofs.Names.{all_weaker}
-
-pub some_bytes : (path : List ℕ) → refusal path ≡ None → 0 < length path
-some_bytes [] r = absurd (cc r)
-some_bytes (b ∷ path) r = omega arith
+use Rattle.flat_list.proofs.Decoded.{lt_is}
 
 -- ---- entries in path order
 
@@ -92,11 +87,6 @@ all_push : (P : Entry → Type 0) (es : List Entry) (e : Entry) → AllByRecursi
 all_push P [] e h p = (p, tt)
 all_push P (x ∷ es) e h p = (h.0, all_push P es e h.1 p)
 
-less_of : (o : Ordering) → is_lt o ≡ true → o ≡ Less
-less_of Less e = refl
-less_of Equal e = absurd (false≢true e)
-less_of Greater e = absurd (false≢true e)
-
 -- an entry that was looked at is passed
 pub record IsNext (ahead : List Entry × List Entry) (e : Entry) (path : List ℕ) : Type 0 where
   pub ascend : IsStrictlySortedBy path_cmp (paths (ahead.0 ++ ahead.1))
@@ -118,7 +108,7 @@ next_passed passed (r ∷ ahead) e closed path n p =
     let same : e ≡ r = cc (n.first) in
     subst (λ (x : Entry). ArePassed (passed ++ x ∷ []) (closed_with closed e) path) same
     (one_passed passed e ahead closed path (subst (λ (x : Entry). Ascend (passed ++ x ∷ ahead)) (sym same) n.ascend)
-    (less_of (path_cmp e.path path) n.before) n.some p)
+    (lt_is (path_cmp e.path path) n.before) n.some p)
 
 pub passed_more : (ahead : List Entry × List Entry) (e : Entry) (closed : Option (List ℕ)) (path : List ℕ) → IsNext ahead e path →
     ArePassed ahead.0 closed path → ArePassed (moved ahead.0 ahead.1).0 (closed_with closed e) path

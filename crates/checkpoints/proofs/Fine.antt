@@ -9,7 +9,7 @@ use Rattle.std.proofs.lemmas.Bool.{false≢true}
 use Rattle.std.proofs.lemmas.List.Elements.{recursion_from_All, All-from_recursion}
 use Rattle.path_text.specs.Path.{refusal, parent_of}
 use Rattle.outside.specs.Tree.{Files, Node, is_file, is_dir, is_root}
-use Rattle.outside.specs.Count.{RoseBy, StoodStill}
+use Rattle.outside.specs.Count.{StoodStill}
 use Rattle.outside.specs.Whole.{HoldsFile, can_save}
 use Rattle.entry_pages.specs.declared.entries.Entry.{Entry}
 use Rattle.flat_list.specs.Spelling.{Spells, SpellsOne, RefusesExactly, IsRefused, IsTooLong}
@@ -34,11 +34,9 @@ use Rattle.checkpoints.specs.Placing.{is_misplaced, ArePlaced, IsFirstMisplaced}
 use Rattle.checkpoints.specs.Stopping.{stop_of_lists, HasNoRanks, HasMisplaced, IsGone, WroteNoRanks, WroteNoList, WroteTorn}
 use Rattle.checkpoints.specs.Laws.{CheckpointsAreOne, IsFineKept, FineReadsStopForMemory, IsFree, FineWritesStopForMemory}
 use Rattle.checkpoints.proofs.Paths.{dir_differs, file_differs, list_differs, parent_of_list}
+use Rattle.run_entries.proofs.Fine.{no_fault}
 
 -- ---- counts and trees
-
-no_fault : (old new : ℕ) → RoseBy 1 old new → StoodStill old new → ⊥
-no_fault old new rose stood = let a = rose.rose in let b = stood.below_end in let e = stood.same in absurd (omega arith)
 
 -- what is so of files that tell their tree
 of_told : (P : Files → Type 0) (tree : Option Files) (files : Files) → tree ≡ Some files → IfSome tree P → P files

@@ -16,6 +16,7 @@ use Rattle.tree_walk.proofs.Inside.{begins, is_in_is, in_itself, in_trans, begin
 use Rattle.tree_walk.proofs.Covers.{in_line, not_both}
 use Rattle.tree_walk.proofs.Rooted.{before_later}
 use Rattle.checkpoints.specs.Passing.{Behind, AllBehind, covered, top_with, IsTop}
+use Rattle.tree_walk.proofs.InBytes.{is_one}
 
 -- ---- what stands behind a path
 
@@ -133,9 +134,6 @@ behind_begins [] [] e = refl
 behind_begins [] (b ∷ x) e = refl
 behind_begins (a ∷ p) [] e = absurd (false≢true e)
 behind_begins (a ∷ p) (b ∷ x) e = not_less a b (begins p x) (path_cmp x p) e (behind_begins p x)
-
-is_one : (n : ℕ) → (n == 1) ≡ true → n ≡ 1
-is_one n e = grind (arith, nat_tests)
 
 short_front : (p x : List ℕ) → 0 < length x → length p ≡ 1 → begins p (front x) ≡ true → begins p x ≡ true
 short_front p x some one e =

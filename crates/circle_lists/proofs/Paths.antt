@@ -12,13 +12,10 @@ use Rattle.whole_lines.specs.Lines.{end_text}
 use Rattle.whole_lines.specs.Words.{cut}
 use Rattle.whole_lines.proofs.Words.{IsFree, cut_again}
 use Rattle.whole_lines.proofs.Numbers.{decimal_free}
-use Rattle.whole_lines.proofs.Escapes.{free-append, escape_free}
+use Rattle.whole_lines.proofs.Escapes.{free-append}
 use Rattle.circle_lists.specs.Spelling.{IsRank, head_text, IsWritable}
 
 -- ---- paths
-
-pub path_free : (path : List ℕ) → IsFree 10 (escape path)
-path_free path = escape_free path
 
 pub same_path : ReadingUndoesWriting → (p q : List ℕ) → IsWritable p → IsWritable q → escape p ≡ escape q → p ≡ q
 same_path undoes p q is one e =

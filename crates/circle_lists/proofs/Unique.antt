@@ -13,8 +13,9 @@ use Rattle.whole_lines.proofs.WholeLines as whole
 use Rattle.whole_lines.proofs.WholeLines.{cons_parts}
 use Rattle.circle_lists.specs.Spelling.{head_text, IsWritable, path_lines, lines_for, Spells, Begins, IsDamaged, SpellsOne, DamagedOnce}
 use Rattle.circle_lists.specs.Checkpoint.{HoldsList, ReadsBack}
-use Rattle.circle_lists.proofs.Paths.{path_free, head_free, same_head}
+use Rattle.circle_lists.proofs.Paths.{head_free, same_head}
 use Rattle.circle_lists.proofs.Damage.{form, is_final, same_lines}
+use Rattle.whole_lines.proofs.Escapes.{escape_free}
 
 -- ---- the lines of a text
 
@@ -26,7 +27,7 @@ paths_first (p ∷ ps) rest each =
     let tail = flat_map (λ l. l) (path_lines ps) ++ rest in
     let parts : flat_map (λ l. l) (path_lines (p ∷ ps)) ++ rest ≡ text ++ 10 ∷ tail =
     append_assoc (line text) (flat_map (λ l. l) (path_lines ps)) rest ∙ append_assoc text (10 ∷ []) tail in
-    ap lines_of parts ∙ line_first text tail (path_free p) ∙ ap (λ ls. line text ∷ ls) (paths_first ps rest each.1)
+    ap lines_of parts ∙ line_first text tail (escape_free p) ∙ ap (λ ls. line text ∷ ls) (paths_first ps rest each.1)
 
 file_lines : (a more : List ℕ) (rank ranks : ℕ) (ps : List (List ℕ)) → Spells a rank ranks ps →
     lines_of (a ++ more) ≡ line (head_text rank ranks) ∷ (path_lines ps ++ line (end_text (length ps)) ∷ lines_of more)

@@ -17,8 +17,9 @@ use Rattle.circle_run.specs.Private.Services.{Awaits, ServesOn}
 use Rattle.circle_run.specs.Ranks.{Knows}
 use Rattle.circle_run.specs.declared.books.Book.{Book}
 use Rattle.circle_run.specs.declared.ranks.Rank.{Rank}
-use Rattle.circle_run.proofs.Asked.{not_true, true_not_false}
+use Rattle.circle_run.proofs.Asked.{true_not_false}
 use Rattle.circle_run.proofs.Known.{knows_seen, knows_served}
+use Rattle.std.proofs.lemmas.Bool.{false_from_ne_true}
 
 pub answer_gives : (to : ℕ) (batch : Strings) → 0 < length batch → answer_of (to, batch) ≡ give to batch
 answer_gives to batch some = ap (λ (b : Bool). if b then refuse to else give to batch) (ne_eqb (length batch) 0 (λ e. absurd (omega (arith, e, some))))
@@ -29,7 +30,7 @@ pub writes_after : (trace : Bool) (es : List Event) (b b1 b2 : Book) → b1 ≡ 
 writes_after trace es b b1 b2 same lost w = record {
   sums = w.sums ∙ ap (λ (x : Book). x.sums) same;
   lost = λ l. w.lost (lost l);
-  had = λ found. not_true b.lost (λ l. true_not_false b1.lost (lost l) (w.had found));
+  had = λ found. false_from_ne_true b.lost (λ l. true_not_false b1.lost (lost l) (w.had found));
   kept = λ found. w.kept found ∙ ap (λ (x : Book). x.events.items ++ (if trace then es else [])) same;
   share = λ found. w.share found ∙ ap (λ (x : Book). counted es x.share) same;
 }

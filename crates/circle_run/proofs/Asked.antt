@@ -4,7 +4,7 @@ use Rattle.std.proofs.Common.{[], ◌∷◌, ◌++◌, filter, length, append-ni
 use Rattle.std.proofs.Common.{Option, Some, None}
 use Rattle.std.specs.List.{range_with_len}
 use Rattle.std.proofs.lemmas.List.Elements.{filter-append}
-use Rattle.std.proofs.lemmas.Bool.{eqb-true}
+use Rattle.std.proofs.lemmas.Bool.{eqb-true, false_from_ne_true}
 use Rattle.std.proofs.Math.ListN.{get_or-eq_default}
 use mathlib.Core.Logic.{dite}
 use native.Mathlib.Decide.{ℕ_discrete, dec_le}
@@ -14,10 +14,7 @@ use Rattle.post_board.specs.Deeds.{give, refuse, told_after, blackened, Tells, S
 use Rattle.post_board.specs.Calls.{given, served, NoneAsks, LookedFor, AgreesIfTold}
 use Rattle.circle_run.specs.Moves.{asks, askers, NobodyAsks, AreAskers}
 use Rattle.circle_run.specs.Private.Services.{unserved, AsksOf, Awaits, is_asker, askers_below, InOrder, InOrderIfTold}
-
-pub not_true : (b : Bool) → (b ≡ true → ⊥) → b ≡ false
-not_true true f = absurd (f refl)
-not_true false f = refl
+use Rattle.ring_core.proofs.Dealing.{range_more}
 
 pub true_not_false : (b : Bool) → b ≡ true → b ≡ false → ⊥
 true_not_false b e f = (let x : true ≡ false = sym e ∙ f in cc)
@@ -81,7 +78,8 @@ asks_none s asks none = record {
 }
 
 pub none_left : (s : Shown) (asks : List ℕ) (k count : ℕ) → AsksOf s asks k count → count ≤ k → (r : ℕ) → is_served s r ≡ false
-none_left s asks k count left done r = not_true (is_served s r) (λ e. (let o = left.all r e in let low = o.1 in let high = o.2 in absurd (omega arith)))
+none_left s asks k count left done r = false_from_ne_true (is_served s r)
+    (λ e. (let o = left.all r e in let low = o.1 in let high = o.2 in absurd (omega arith)))
 
 -- one has its answer
 pub asks_less : (s s' : Shown) (asks : List ℕ) (k count : ℕ) → s'.serves ≡ set s.serves (get_or asks k 0) false → k < count
@@ -121,10 +119,6 @@ pub asker_from : (me : ℕ) (t : Told) (r : ℕ) → is_asker me t r ≡ true �
 asker_from me t r e =
     let both = and_true (not (r == me)) (asks me (place t r).mail) e in
     (λ q. true_not_false (not (r == me)) both.0 (ap not (eq-eqb r me q)), asks_from me (place t r).mail both.1)
-
-range_more : (a k : ℕ) → range_with_len a (suc k) ≡ range_with_len a k ++ (a + k) ∷ []
-range_more a zero = ap (λ (x : ℕ). x ∷ []) (omega arith)
-range_more a (suc k) = ap (λ (xs : List ℕ). a ∷ xs) (range_more (a + 1) k ∙ ap (λ (x : ℕ). range_with_len (a + 1) k ++ x ∷ []) (omega arith))
 
 askers_more : (me : ℕ) (t : Told) (k : ℕ) → askers_below me t (suc k) ≡ askers_below me t k ++ filter (is_asker me t) (k ∷ [])
 askers_more me t k = ap (filter (is_asker me t)) (range_more 0 k ∙ ap (λ (x : ℕ). range_with_len 0 k ++ x ∷ []) (omega arith))
@@ -168,7 +162,7 @@ in_order_more me s s' t ranks to number serves below fresh other looked inside o
     let earlier : (r : ℕ) → r < to → is_asker me t r ≡ true → is_served s r ≡ true =
     λ r low e. (let f = asker_from me t r e in looked.1 r low (λ q. f.0 (q ∙ number)) (f.1 ∙ ap asked (sym number))) in
     let passed : (r : ℕ) → old.upto ≤ r → r < to → is_asker me t r ≡ false =
-    λ r from low. not_true (is_asker me t r) (λ e. (let z = old.below r (earlier r low e) in absurd (omega arith))) in
+    λ r from low. false_from_ne_true (is_asker me t r) (λ e. (let z = old.below r (earlier r low e) in absurd (omega arith))) in
     let after : old.upto ≤ to = dite (dec_le old.upto to) (λ h. h) (λ h. absurd (true_not_false (is_served s to) (old.all to (omega arith) is) fresh)) in
     record {
       upto = suc to;
@@ -184,7 +178,7 @@ in_order_done : (me : ℕ) (s : Shown) (t : Told) (ranks : List ℕ) → s.numbe
     → InOrder me s t ranks → ranks ≡ askers me t
 in_order_done me s t ranks number n none old =
     old.are ∙ sym (askers_between me t old.upto (length t.places) old.within
-    (λ r from low. not_true (is_asker me t r)
+    (λ r from low. false_from_ne_true (is_asker me t r)
     (λ e. (let f = asker_from me t r e in
     let z = old.below r (none r (omega arith) (λ q. f.0 (q ∙ number)) (f.1 ∙ ap asked (sym number))) in absurd (omega arith)))))
 
@@ -207,7 +201,7 @@ pub nobody : (me : ℕ) (s : Shown) (told : Option Told) → s.number ≡ me →
 nobody me s None number agrees awaits none = tt
 nobody me s (Some t) number agrees awaits none =
     askers_between me t 0 (length t.places) (omega arith)
-    (λ r from low. not_true (is_asker me t r) (λ e. (let f = asker_from me t r e in let n = agrees.ranks in
+    (λ r from low. false_from_ne_true (is_asker me t r) (λ e. (let f = asker_from me t r e in let n = agrees.ranks in
     true_not_false (is_served s r) (awaits r (omega arith) (λ q. f.0 (q ∙ number)) (f.1 ∙ ap asked (sym number))) (none r))))
 
 -- those being served are all that ask

@@ -20,8 +20,9 @@ use Rattle.circle_run.specs.declared.steps.Did.{Did}
 use Rattle.circle_run.specs.declared.steps.Did.TheVariants.{Handled, Acted, Waited, Stopped}
 use Rattle.circle_run.specs.declared.settings.Options.{Options}
 use Rattle.circle_run.specs.declared.ranks.Rank.{Rank}
-use Rattle.circle_run.proofs.Asked.{not_true, true_not_false}
+use Rattle.circle_run.proofs.Asked.{true_not_false}
 use Rattle.circle_run.proofs.Stepped.{came_then, came_as, came_settled}
+use Rattle.std.proofs.lemmas.Bool.{false_from_ne_true}
 
 -- which choice comes first
 choice_busy : (n : ℕ) (queue : Strings) (asked : Option ℕ) (tried : Bool) (ring : Ring) → 0 < length queue
@@ -318,7 +319,7 @@ module _ {J S T P Q : Type 0} (log : J → Log) (heard : J → Option (List ℕ)
       let same_me : w.r2.me ≡ w.r.me = b.me ∙ a.me in
       came_as log plain shows tells seats K (Works heard shows tells (with_service some done) w.r w.p w.r4) w.r w.p w.r4 w.p4
       (λ moves found k does.
-      let had : w.r2.book.lost ≡ false = not_true w.r2.book.lost (λ l. true_not_false w.r4.book.lost (e.lost (d.lost l)) found) in
+      let had : w.r2.book.lost ≡ false = false_from_ne_true w.r2.book.lost (λ l. true_not_false w.r4.book.lost (e.lost (d.lost l)) found) in
       let settled : w.queue ≡ w.r2.queue = between.kept had in
       let ranks : w.r2.options.ranks ≡ w.r.options.ranks = ap (λ (o : Options). o.ranks) (b.options ∙ a.options) in
       let same : c ≡ choice w.r.options.ranks (record (standing ring w.r) { queue = w.queue }) =

@@ -19,6 +19,7 @@ use Rattle.circle_run.specs.Shares.{handled_in, given_in, taken_in}
 use Rattle.circle_run.specs.declared.settings.Options.{Options}
 use Rattle.circle_run.proofs.Deeds.{some_is}
 use Rattle.circle_run.proofs.Sums.{sum_by-set}
+use Rattle.post_board.proofs.DeedLemmas.{size_after}
 
 abbrev Weight : Type 0
 Weight = List ℕ → ℕ
@@ -44,17 +45,6 @@ acts me (pass c) t legal = legal.0.0
 acts me restart t legal = legal.0.0
 acts me conclude t legal = legal.0.0
 acts me see_over t legal = legal.0.0
-
-as_many : (me : ℕ) (d : Deed) (t : Told) → length (told_after me d t).places ≡ length t.places
-as_many me (ask v) t = simp length-set
-as_many me (give to b) t = simp length-set
-as_many me (refuse to) t = simp length-set
-as_many me (take from b) t = simp length-set
-as_many me (take_none from) t = simp length-set
-as_many me (pass c) t = simp length-set
-as_many me restart t = simp length-set
-as_many me conclude t = simp length-set
-as_many me see_over t = simp length-set
 
 module _ (w : Weight) where
   put_mail : (t : Told) (r : ℕ) (x : Place) → r < length t.places → mailed w (put_place t r x) + mail w (place t r) ≡ mailed w t + mail w x
@@ -128,7 +118,7 @@ answered (x ∷ xs) me t u (mid, (legal, same), told) =
     let rest : Answered xs next u = answered xs me next u (subst (λ (m : Option Told). TellsAll me (map answer_of xs) m (Some u)) same told) in
     record {
       mail = λ w. omega (arith, rest.mail w, answer_mail w me x t legal, sum_by-append w x.1 (flat_map (λ (x : ℕ × Strings). x.1) xs));
-      places = rest.places ∙ as_many me (answer_of x) t;
+      places = rest.places ∙ size_after me (answer_of x) t;
     }
 
 -- what a move leaves, where the side was x and t was told, and the side is y and u is told
@@ -196,7 +186,7 @@ moved o me (did d) x y t u does =
       log = does.log ∙ sym (append-nil x.log);
       queue = λ w. omega (arith, deed_queue w d x.queue y.queue does.queue);
       mail = λ w. omega (arith, ap (mailed w) same, deed_mail w me d t legal, ap (sum_by w) (nothing_given d x.queue y.queue does.queue));
-      places = ap (λ (v : Told). length v.places) same ∙ as_many me d t;
+      places = ap (λ (v : Told). length v.places) same ∙ size_after me d t;
       outside = λ past. (let h : me < length t.places = acts me d t legal in absurd (omega arith));
     }
 moved o me (noted late) x y t u does =

@@ -18,6 +18,7 @@ use Rattle.circle_run.specs.Private.Steps.{Follows}
 use Rattle.circle_run.specs.declared.steps.Did.TheVariants.{Acted}
 use Rattle.circle_run.specs.declared.ranks.Rank.{Rank}
 use Rattle.circle_run.proofs.Asked.{true_not_false}
+use Rattle.std.proofs.lemmas.Bool.{or_parts}
 
 -- where it read that all are to halt, they are
 pub halt_read : (ring : Ring) (s : Shown) (t t' : Option Told) → ring ≡ HeardHalted → RingTold s ring t t' → IsHalted t'
@@ -53,12 +54,8 @@ pub halts_is : {J S T : Type 0} (ring : Ring) (r : Rank J S T) (due halts b : Bo
     → is_to_halt ring r ≡ b
 halts_is ring r due halts b done is value = sym (is ∙ ap (λ (d : Bool). d || is_halt ring) done) ∙ value
 
-neither : (a b : Bool) → (a || b) ≡ false → (a ≡ false) × (b ≡ false)
-neither true b e = absurd (true_not_false true refl e)
-neither false b e = (refl, e)
-
 pub goes_neither : (due halts : Bool) (ring : Ring) → halts ≡ (due || is_halt ring) → halts ≡ false → (due ≡ false) × (is_halt ring ≡ false)
-goes_neither due halts ring is goes = neither due (is_halt ring) (sym is ∙ goes)
+goes_neither due halts ring is goes = or_parts due (is_halt ring) (sym is ∙ goes)
 
 halted_ring : (ring : Ring) → is_halt ring ≡ true → ring ≡ HeardHalted
 halted_ring HeardHalted e = refl
@@ -76,7 +73,7 @@ pub halt_unless_first : (due halts first : Bool) (ring : Ring) → halts ≡ (du
     → first ≡ false → ring ≡ HeardHalted
 halt_unless_first due halts first ring is value tells none = halted_ring ring (told_before due (is_halt ring) (sym is ∙ value) (sym tells ∙ none))
 
-both_first : (a b : Bool) → (a && b) ≡ true → a ≡ true
+pub both_first : (a b : Bool) → (a && b) ≡ true → a ≡ true
 both_first true b e = refl
 both_first false b e = e
 

@@ -13,13 +13,8 @@ use Rattle.circle_run.specs.declared.settings.Options.{Options}
 use Rattle.circle_run.specs.declared.ranks.Rank.{Rank}
 use Rattle.circle_run.proofs.Maps.{flat_none, map_each, some_of}
 use Rattle.circle_run.proofs.Turning.{either}
-
-if_some : (s : Option ℕ) (F : ℕ → Type 0) → ((k : ℕ) → s ≡ Some k → F k) → IfSome s F
-if_some None F each = tt
-if_some (Some k) F each = each k refl
-
-same_number : (a b : ℕ) → Some a ≡ Some b → a ≡ b
-same_number a b e = cc
+use Rattle.post_board.proofs.PlainDeeds.{some_same}
+use Rattle.circle_run.proofs.Bounding.{if_some}
 
 module _ {X : Type 0} where
   each_more : (A : X → Type 0) (x : X) (xs : List X) → A x → ((k : ℕ) (d : X) → k < length xs → A (get_or xs k d))
@@ -129,6 +124,6 @@ module _ {J S T P Q : Type 0} (log : J → Log) (shows : S → Shown) (seats : P
         r.job,
         (let i = c.1 in omega (arith, i, long)),
         ap (λ (l : List J). get_or l c.0 r.job) jobs_are ∙ get_or-map (λ (y : Rank J S T). y.job) ranks c.0 d r.job c.1,
-        same_number (handled_by r) k (sym c.2 ∙ is),
+        some_same (handled_by r) k (sym c.2 ∙ is),
       ))
       (all_or_one (λ (y : Rank J S T). y.ended ≡ true) (λ (y : Rank J S T). y.stopped ≡ true) ranks (done_by o ranks p q all_seats x)))

@@ -1,9 +1,6 @@
 -- A rank that has done nothing is ready for its first turn.
-use Rattle.std.proofs.Common.{◌≡◌, ℕ, ◌<◌, ◌≤◌, refl, sym, subst, ap, ◌∙◌, arith, true, false, List, [], length, get_or, replicate, Option, None, Some}
-use mathlib.Core.Logic.{dite}
-use native.Mathlib.Decide.{dec_le}
-use Rattle.std.proofs.lemmas.List.{get_or-replicate, length-replicate}
-use Rattle.std.proofs.Math.ListN.{get_or-eq_default}
+use Rattle.std.proofs.Common.{◌≡◌, ℕ, ◌<◌, ◌≤◌, refl, sym, subst, ap, ◌∙◌, arith, true, false, List, [], length, Option, None, Some}
+use Rattle.std.proofs.lemmas.List.{length-replicate}
 use Rattle.post_board.specs.Shown.{Shown, Batches, Strings, is_served}
 use Rattle.post_board.specs.Fresh.{fresh}
 use Rattle.sum_tree.specs.Shown.{SumShown}
@@ -15,10 +12,7 @@ use Rattle.circle_run.specs.Progress.{Keeps, KeptOf}
 use Rattle.circle_run.specs.Ready.{IsNew, Ready}
 use Rattle.circle_run.specs.declared.settings.Options.{Options}
 use Rattle.circle_run.specs.declared.ranks.Rank.{Rank}
-
-pub none_served : (n k : ℕ) → get_or (replicate n false) k false ≡ false
-none_served n k = dite (dec_le n k) (λ past. get_or-eq_default (replicate n false) false (let l = length-replicate n false in omega arith))
-    (λ h. get_or-replicate n k false false (omega arith))
+use Rattle.sum_tree.proofs.StartLemmas.{never}
 
 keeps_nothing : (numbers : List ℕ) (n width me : ℕ) → numbers ≡ [] → Keeps numbers 0 (fresh_sums n width me)
 keeps_nothing numbers n width me none = subst (λ (xs : List ℕ). Keeps xs 0 (fresh_sums n width me)) (sym none)
@@ -57,7 +51,7 @@ module _ {J S T P Q : Type 0} (log : J → Log) (shows : S → Shown) (seats : P
           over = λ e. (let f : true ≡ false = sym e ∙ ap (λ (x : Rank J S T). x.ended) is in cc);
           empty = ap (λ (x : Rank J S T). x.fresh) is;
         };
-        none = λ k. ap (λ (x : Shown). is_served x k) s ∙ none_served o.ranks k;
+        none = λ k. ap (λ (x : Shown). is_served x k) s ∙ never o.ranks k;
         mine = subst (seats p) (sym there) mine;
         lost = λ l. (let f : true ≡ false = sym l ∙ new.lost in cc);
         bounded = λ found. record {

@@ -28,7 +28,7 @@ told_side x u = record { queue = x.queue; log = x.log; draws = x.draws; batches 
 abbrev rank_in : Side → RankSide
 rank_in s = record { queue = s.queue; log = s.log; draws = s.draws }
 
-nothing : (b : Bool) (xs : List Event) → xs ≡ xs ++ cond b [] []
+pub nothing : (b : Bool) (xs : List Event) → xs ≡ xs ++ cond b [] []
 nothing true xs = sym (append-nil xs)
 nothing false xs = sym (append-nil xs)
 

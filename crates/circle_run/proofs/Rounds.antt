@@ -1,7 +1,7 @@
 -- Ranks that have their turns in rounds: what one turn keeps of all of them.
 use Rattle.std.proofs.Common.{◌≡◌, ℕ, zero, suc, ◌<◌, ◌≤◌, ◌≢◌, ⊎_elim, refl, sym, subst, ap, ◌∙◌, arith, Bool, true, false, List, [], ◌∷◌, length}
 use Rattle.std.proofs.Common.{Option, length-set, set, get_or, get_or-set_same, get_or-set_other}
-use Rattle.std.proofs.lemmas.Bool.{cases_lt}
+use Rattle.std.proofs.lemmas.Bool.{cases_lt, false_from_ne_true}
 use Rattle.std.proofs.lemmas.List.{get_or_read, get_or_default}
 use mathlib.Core.Logic.{dite}
 use native.Mathlib.Decide.{ℕ_discrete}
@@ -13,7 +13,7 @@ use Rattle.circle_run.specs.Hosts.{IsAscending, NoneLost, NoneWrote, AreAll, Sam
 use Rattle.circle_run.specs.declared.settings.Options.{Options}
 use Rattle.circle_run.specs.declared.ranks.Rank.{Rank}
 use Rattle.circle_run.proofs.Known.{knows_queue}
-use Rattle.circle_run.proofs.Asked.{not_true, true_not_false}
+use Rattle.circle_run.proofs.Asked.{true_not_false}
 
 -- the events of a rank are elsewhere
 abbrev pub moved_on : {J S T : Type 0} → Rank J S T → Rank J S T → Type 0
@@ -44,7 +44,7 @@ module _ {J S T : Type 0} where
       let here : r'.book.lost ≡ false = ap (λ (x : Rank J S T). x.book.lost) (sym (get_or-set_same ranks k r' r' below))
       ∙ none k r' (subst (λ (n : ℕ). k < n) (sym (length-set ranks k r')) below) in
       ap (λ (i : ℕ). (get_or ranks i d).book.lost) e ∙ ap (λ (x : Rank J S T). x.book.lost) (at_place ranks k r d below is)
-      ∙ not_true r.book.lost (λ l. true_not_false r'.book.lost (lost l) here))
+      ∙ false_from_ne_true r.book.lost (λ l. true_not_false r'.book.lost (lost l) here))
       (λ ne. ap (λ (x : Rank J S T). x.book.lost) (sym (get_or-set_other ranks k j r' d ne)) ∙ none j d within)
 
   pub lost_here : (ranks : List (Rank J S T)) (k : ℕ) (r' : Rank J S T) → k < length ranks → NoneLost (set ranks k r') → r'.book.lost ≡ false

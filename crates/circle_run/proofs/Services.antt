@@ -3,10 +3,7 @@ use Rattle.std.proofs.Common.{◌≡◌, ℕ, All, zero, suc, ◌+◌, ◌-◌, 
 use Rattle.std.proofs.Common.{◌++◌, map, take, length, length-append, append_assoc, append-nil, get_or, Option, None, inl, inr, replicate, ◌≢◌}
 use Rattle.std.specs.Prelude.{if◌then◌else◌}
 use Rattle.std.specs.List.{flat_map}
-use Rattle.std.proofs.lemmas.List.{map-append, length-map, length-take-le, get_or-take, get_or-map}
-use Rattle.std.proofs.Math.ListN.{get_or-eq_default}
-use mathlib.Core.Logic.{dite}
-use native.Mathlib.Decide.{dec_le}
+use Rattle.std.proofs.lemmas.List.{map-append, length-map, length-take-le, get_or-take, get_or-map, nil_from_length}
 use Rattle.std.proofs.lemmas.Grind.{flat_map-append}
 use Rattle.std.proofs.Math.Seq.{take-suc}
 use Rattle.rand_pcg.specs.Lcg.{Lcg}
@@ -27,8 +24,10 @@ use Rattle.circle_run.specs.declared.books.Book.{Book}
 use Rattle.circle_run.specs.declared.outcomes.Share.{Share}
 use Rattle.circle_run.specs.declared.settings.Options.{Options}
 use Rattle.circle_run.specs.declared.ranks.Rank.{Rank}
-use Rattle.circle_run.proofs.Stepped.{counted_then, kept_then, side_as, still_then}
-use Rattle.circle_run.proofs.Asked.{not_true, true_not_false, asks_less, none_left}
+use Rattle.circle_run.proofs.Stepped.{counted_then, kept_then, side_as, still_then, kept_none}
+use Rattle.circle_run.proofs.Asked.{true_not_false, asks_less, none_left}
+use Rattle.std.proofs.lemmas.Bool.{false_from_ne_true}
+use Rattle.post_board.proofs.CallLemmas.{in_list}
 
 told_push : (me : ℕ) (ds : List Deed) (d : Deed) (a b c : Option Told) → TellsAll me ds a b → Tells me d b c → TellsAll me (ds ++ d ∷ []) a c
 told_push me [] d a b c all one = (c, subst (λ (x : Option Told). Tells me d x c) all one, refl)
@@ -41,14 +40,6 @@ batches_push (e ∷ ds) d b = batches_push ds d (batches_after e b)
 none_more : (lot : Lot) (from : Lcg) → amounts_of lot zero from ≡ ([], from)
 none_more (Same share) from = refl
 none_more (ByLot left) from = refl
-
-nothing_in : {A : Type 0} (xs : List A) → length xs ≡ 0 → xs ≡ []
-nothing_in [] e = refl
-nothing_in (x ∷ xs) e = absurd (omega (arith, e))
-
-kept_of_none : (trace : Bool) (xs : List Event) → xs ≡ xs ++ (if trace then [] else [])
-kept_of_none true xs = sym (append-nil xs)
-kept_of_none false xs = sym (append-nil xs)
 
 module _ {J S T P : Type 0} (log : J → Log) (shows : S → Shown) (tells : P → Option Told) (seats : P → S → Type 0) where
   pub serving_none : (r : Rank J S T) (p : P) (asks : List ℕ) (lot : Lot) (count : ℕ) → Knows shows r → seats p r.seat
@@ -88,7 +79,7 @@ module _ {J S T P : Type 0} (log : J → Log) (shows : S → Shown) (tells : P �
           oldest = refl;
           batches = refl;
           told = refl;
-          kept = kept_of_none r.options.trace r.book.events.items;
+          kept = kept_none r.options.trace r.book.events.items;
           share = refl;
         });
       }
@@ -189,7 +180,7 @@ module _ {J S T P : Type 0} (log : J → Log) (shows : S → Shown) (tells : P �
         };
         left = asks_less (shows r1.seat) (shows r2.seat) asks k count answered.serves more old.left;
         went = λ found.
-            let before : r1.book.lost ≡ false = not_true r1.book.lost (λ l. true_not_false r2.book.lost (a.lost l) found) in
+            let before : r1.book.lost ≡ false = false_from_ne_true r1.book.lost (λ l. true_not_false r2.book.lost (a.lost l) found) in
             let far : SoFar log shows tells seats r p r1 p1 (take k asks) lot lot1 count (suc m) =
             subst (λ (i : ℕ). SoFar log shows tells seats r p r1 p1 (take k asks) lot lot1 count i) next (old.went before) in
             so_far_more r p r1 p1 r2 p2 asks lot lot1 lot2 k count m share d (omega arith) b.me b.options answered.draws (first m) (drawn m)
@@ -204,9 +195,6 @@ names_of answers asks count n are total below k d h =
     in
     subst (λ (v : ℕ). v < n) e (below k (omega arith))
 
-served_below : (xs : List Bool) (r : ℕ) → get_or xs r false ≡ true → r < length xs
-served_below xs r e = dite (dec_le (length xs) r) (λ past. absurd (true_not_false (get_or xs r false) e (get_or-eq_default xs false past))) (λ h. omega arith)
-
 no_zero : (n k : ℕ) → ◌≡◌ {A = ℕ} (get_or (replicate n 0) k 0) 0
 no_zero zero k = refl
 no_zero (suc n) zero = refl
@@ -214,7 +202,7 @@ no_zero (suc n) (suc k) = no_zero n k
 
 all_refused : (answers : List (ℕ × Strings)) (n : ℕ) → map (λ (y : ℕ × Strings). length y.1) answers ≡ replicate n 0
     → All (λ (y : ℕ × Strings). y.1 ≡ []) answers
-all_refused answers n e k d h = nothing_in (get_or answers k d).1
+all_refused answers n e k d h = nil_from_length (get_or answers k d).1
     (sym (get_or-map (λ (y : ℕ × Strings). length y.1) answers k d 0 h) ∙ ap (λ (xs : List ℕ). get_or xs k 0) e ∙ no_zero n k)
 
 -- what a service shares out: the amounts of the split, or nothing
@@ -271,7 +259,7 @@ module _ {J S T P Q : Type 0} (log : J → Log) (plain : J → Q) (shows : S →
         are = record {
           answers = far.answers;
           are = refl;
-          none = λ e. nothing_in far.answers (total ∙ none e);
+          none = λ e. nil_from_length far.answers (total ∙ none e);
           any = λ e. (let h = some e in omega (arith, h, total));
           refused = refused;
         };
@@ -333,6 +321,6 @@ module _ {J S T P Q : Type 0} (log : J → Log) (plain : J → Q) (shows : S →
             (went_served gives b r p r1 p1 asks lot lot1 count (count - k) none some (omega arith) room shares
             (subst (λ (i : ℕ). AreAskers i (tells p) (take count asks)) (sym me) askers)
             (λ j h. (let w = taken.knows.wide in
-            let b = served_below (shows r.seat).serves (get_or asks j 0) (taken.asked.served j (omega arith) h) in omega arith)) on.job
+            let b = in_list (shows r.seat).serves (get_or asks j 0) (taken.asked.served j (omega arith) h) in omega arith)) on.job
             (subst (λ (i : ℕ). SoFar log shows tells seats r p r1 p1 (take i asks) lot lot1 count (count - k)) done (serving.went found)));
       }

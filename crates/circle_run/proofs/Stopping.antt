@@ -1,6 +1,6 @@
 -- A run of moves halts only where some rank has handled its number of strings.
 use Rattle.std.proofs.Common.{◌≡◌, ℕ, zero, suc, ◌+◌, ◌<◌, ◌≤◌, refl, sym, subst, ap, ◌∙◌, arith, Bool, true, false, List, [], ◌∷◌, map, length}
-use Rattle.std.proofs.Common.{length-append, length-set, set, get_or, get_or-set_same, get_or-set_other, replicate, Option, Some, None}
+use Rattle.std.proofs.Common.{length-append, length-set, set, get_or, get_or-set_same, get_or-set_other, Option, Some, None}
 use Rattle.std.specs.List.{range_with_len}
 use Rattle.std.specs.Prelude.{IfSome}
 use Rattle.rank_queue.specs.Shares.{generator_of}
@@ -18,6 +18,8 @@ use Rattle.circle_run.specs.Stops.{Halts, MovesHalt}
 use Rattle.circle_run.specs.declared.settings.Options.{Options}
 use Rattle.circle_run.proofs.Deeds.{some_is}
 use Rattle.circle_run.proofs.Flows.{moved}
+use Rattle.std.proofs.lemmas.Bool.{false_from_ne_true}
+use Rattle.sum_tree.proofs.StartLemmas.{never}
 
 -- the halt and the stops that are told are the same
 abbrev Words : Told → Told → Type 0
@@ -157,11 +159,6 @@ plays_halt : (o : Options) (moves : List (ℕ × Move)) (from to : Stage) → Pl
 plays_halt o [] from to same old = subst (Halts o) (sym same) old
 plays_halt o (m ∷ moves) from to (x, t, does, plays) old = plays_halt o moves (next from m.0 x t) to plays (halt_step o from m.0 m.1 x t does old)
 
-no_stop : (n r : ℕ) → get_or (replicate n false) r false ≡ false
-no_stop zero r = refl
-no_stop (suc n) zero = refl
-no_stop (suc n) (suc r) = no_stop n r
-
 logs_begun : (o : Options) (starts : Strings) (xs : List ℕ) (r : ℕ)
     → (get_or (map (λ (k : ℕ). record { queue = dealt_to o.ranks starts k; log = []; draws = generator_of o.seed k }) xs) r no_side).log ≡ []
 logs_begun o starts [] r = refl
@@ -173,15 +170,11 @@ begun_halts o starts = record {
   many = length-map (range_with_len 0 o.ranks) _ ∙ length-range_with_len 0 o.ranks ∙ sym (length-replicate o.ranks new_place);
   most = λ r k e. (let l = ap length (logs_begun o starts (range_with_len 0 o.ranks) r) in omega arith);
   cause = λ e. cc;
-  stops = λ r e. (let f : false ≡ true = sym (no_stop o.ranks r) ∙ e in cc);
+  stops = λ r e. (let f : false ≡ true = sym (never o.ranks r) ∙ e in cc);
 }
 
 pub moves_halt : MovesHalt
 moves_halt o starts moves stage plays = plays_halt o moves (begun o starts) stage plays (begun_halts o starts)
-
-not_true : (b : Bool) → (b ≡ true → ⊥) → b ≡ false
-not_true true f = absurd (f refl)
-not_true false f = refl
 
 no_number : (s : Option ℕ) (k : ℕ) → s ≡ None → s ≡ Some k → ⊥
 no_number s k a b = (let e : None ≡ Some k = sym a ∙ b in cc)
@@ -192,8 +185,8 @@ Quiet t = (t.halt ≡ false) × ((r : ℕ) → is_stopped t r ≡ false)
 
 pub quiet : (o : Options) (stage : Stage) → o.stop_after ≡ None → Halts o stage → Quiet stage.told
 quiet o stage none h = (
-  not_true stage.told.halt (λ e. (let c = h.cause e in no_number o.stop_after c.0 none c.2)),
-  λ r. not_true (is_stopped stage.told r) (λ q. (let c = h.cause (h.stops r q) in no_number o.stop_after c.0 none c.2)),
+  false_from_ne_true stage.told.halt (λ e. (let c = h.cause e in no_number o.stop_after c.0 none c.2)),
+  λ r. false_from_ne_true (is_stopped stage.told r) (λ q. (let c = h.cause (h.stops r q) in no_number o.stop_after c.0 none c.2)),
 )
 
 -- nor is any late move made

@@ -22,10 +22,11 @@ use Rattle.circle_run.specs.declared.settings.Options.{Options}
 use Rattle.circle_run.specs.declared.ranks.Turn.{Turn}
 use Rattle.circle_run.specs.declared.ranks.Rank.{Rank}
 use Rattle.circle_run.proofs.Numbers.{newest_push, rises_push, thousands_push}
-use Rattle.circle_run.proofs.Asked.{not_true, true_not_false}
+use Rattle.circle_run.proofs.Asked.{true_not_false}
 use Rattle.circle_run.proofs.Stepped.{kept_none, side_as}
 use Rattle.circle_run.proofs.Bounding.{bounded_as}
 use Rattle.circle_run.proofs.Choosing.{chooses_as}
+use Rattle.std.proofs.lemmas.Bool.{false_from_ne_true}
 
 -- a word that rose is kept where it is far enough above the last number
 pub keeps_more : (numbers numbers' : List ℕ) (s s' : SumShown) → s'.n ≡ s.n → Keeps numbers s.word s → s.word ≤ s'.word
@@ -91,7 +92,7 @@ module _ {J S T Q : Type 0} (shows : T → SumShown) (seats : Q → T → Type 0
   tallied_more strings strings' r r' q q' unended same lost mine number n width unended' slow counts rises leaf keeps passes rest old =
       let me : r'.me ≡ r.me = ap (λ (x : Rank J S T). x.me) same in
       let options : r'.options ≡ r.options = ap (λ (x : Rank J S T). x.options) same in
-      let had : r'.book.lost ≡ false → r.book.lost ≡ false = λ found. not_true r.book.lost (λ l. true_not_false r'.book.lost (lost l) found) in
+      let had : r'.book.lost ≡ false → r.book.lost ≡ false = λ found. false_from_ne_true r.book.lost (λ l. true_not_false r'.book.lost (lost l) found) in
       record {
         mine = mine;
         number = number ∙ old.number ∙ sym me;
@@ -128,7 +129,7 @@ module _ {J S T P D : Type 0} (log : J → Log) (heard : J → Option (List ℕ)
         still = came.still;
         lost = λ l. lost (came.lost l);
         went = λ found.
-            let w = came.went (not_true r1.book.lost (λ l. true_not_false r2.book.lost (lost l) found)) in
+            let w = came.went (false_from_ne_true r1.book.lost (λ l. true_not_false r2.book.lost (lost l) found)) in
             let q : queue ≡ r1.queue = kept found ∙ ap (λ (x : Rank J S T). x.queue) same in
             let j : r2.job ≡ r1.job = ap (λ (x : Rank J S T). x.job) same in
             let d : r2.draws ≡ r1.draws = ap (λ (x : Rank J S T). x.draws) same in
@@ -167,7 +168,7 @@ module _ {J S T P D : Type 0} (log : J → Log) (heard : J → Option (List ℕ)
         still = λ e. refl;
         lost = lost;
         went = λ found. record {
-          had = not_true r.book.lost (λ l. true_not_false r'.book.lost (lost l) found);
+          had = false_from_ne_true r.book.lost (λ l. true_not_false r'.book.lost (lost l) found);
           moves = [];
           are = record {
             kind = subst (λ (b : Bool). IsTurn b turn []) (sym ended) refl;
@@ -220,7 +221,7 @@ module _ {J S T P Q : Type 0} (log : J → Log) (shows : S → Shown) (seats : P
         mine = subst (seats p) (sym seat) old.mine;
         lost = none;
         bounded = λ found. bounded_as log shows r now share job seat options (ap (λ (x : Rank J S T). x.stopped) same)
-            (old.bounded (not_true r.book.lost (λ l. true_not_false r'.book.lost (lost l) found)));
+            (old.bounded (false_from_ne_true r.book.lost (λ l. true_not_false r'.book.lost (lost l) found)));
         sums = subst (λ (j : J). SumsReady sums_shows sums_seats (length (log j)) now q') (sym job) (record {
           mine = sums.mine;
           number = sums.number;

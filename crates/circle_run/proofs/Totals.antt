@@ -20,6 +20,7 @@ use Rattle.circle_run.specs.declared.settings.Options.{Options}
 use Rattle.circle_run.proofs.Begun.{new_side, ranks_begun, places_begun}
 use Rattle.circle_run.proofs.Sums.{sum_by-set, sum_by-flat_map, sum_by-same, sum_by-both, sum_by-ones, sum_by-at_one}
 use Rattle.circle_run.proofs.Flows.{mailed, Moved, moved}
+use Rattle.post_board.proofs.SeatSteps.{if_zero}
 
 abbrev Weight : Type 0
 Weight = List ℕ → ℕ
@@ -47,13 +48,9 @@ nothing : {X : Type 0} (f : X → ℕ) → ((x : X) → f x ≡ 0) → (xs : Lis
 nothing f none [] = refl
 nothing f none (x ∷ xs) = omega (arith, sum_by-cons f x xs, none x, nothing f none xs)
 
-no_weight : (b : Bool) (k : ℕ) → k ≡ 0 → cond b k 0 ≡ 0
-no_weight true k e = e
-no_weight false k e = refl
-
 at_its_rank : (n m k : ℕ) → (n ≤ m → k ≡ 0) → sum_by (λ r. cond (m == r) k 0) (range_with_len 0 n) ≡ k
 at_its_rank n m k past = ⊎_elim (λ inside. sum_by-at_one m k 0 n (omega arith) (omega arith))
-    (λ h. (let e : k ≡ 0 = past h in nothing (λ r. cond (m == r) k 0) (λ r. no_weight (m == r) k e) (range_with_len 0 n) ∙ sym e)) (cases_lt m n)
+    (λ h. (let e : k ≡ 0 = past h in nothing (λ r. cond (m == r) k 0) (λ r. if_zero (m == r) k e) (range_with_len 0 n) ∙ sym e)) (cases_lt m n)
 
 shared_more : (n : ℕ) (kind : Move → Strings) (w : Weight) (m : ℕ × Move) (moves : List (ℕ × Move)) → (n ≤ m.0 → sum_by w (kind m.1) ≡ 0)
     → shared n kind w (m ∷ moves) ≡ sum_by w (kind m.1) + shared n kind w moves

@@ -1,7 +1,7 @@
 -- What a turn of a rank is: moves of which the last but for a halt may handle a string, with an event save where the rank waits or has seen the end.
-use Rattle.std.proofs.Common.{◌≡◌, ◌≢◌, ℕ, ◌⊎◌, inl, inr, ⊎_elim, ◌||◌, refl, sym, subst, ap, ◌∙◌, arith, Bool, true, false, cond, List}
+use Rattle.std.proofs.Common.{◌≡◌, ◌≢◌, ℕ, ◌⊎◌, inl, inr, ⊎_elim, ◌||◌, refl, sym, subst, ap, ◌∙◌, arith, Bool, true, false, List}
 use Rattle.std.proofs.Common.{[], ◌∷◌, ◌++◌, map, length}
-use Rattle.std.proofs.Common.{length-append, append-nil, Option, Some, None}
+use Rattle.std.proofs.Common.{length-append, Option, Some, None}
 use Rattle.std.proofs.lemmas.List.{length-map}
 use Rattle.std.specs.List.{flat_map}
 use Rattle.ring_core.specs.declared.events.Event.{Event}
@@ -25,6 +25,7 @@ use Rattle.circle_run.specs.declared.ranks.Turn.{Turn}
 use Rattle.circle_run.specs.declared.ranks.Turn.TheVariants.{Went as TurnWent, Waited as TurnWaited, Stopped as TurnStopped, Ended as TurnEnded}
 use Rattle.circle_run.specs.declared.ranks.Rank.{Rank}
 use Rattle.circle_run.proofs.Asked.{true_not_false}
+use Rattle.circle_run.proofs.Playing.{nothing}
 
 some_event : (xs ys : List Event) (e : Event) → xs ++ e ∷ ys ≡ [] → ⊥
 some_event xs ys e none = let l = ap length none in absurd (omega (arith, l, length-append xs (e ∷ ys)))
@@ -129,10 +130,6 @@ pub either : (a b : Bool) → (a || b) ≡ true → (a ≡ true) ⊎ (b ≡ true
 either true b e = inl refl
 either false b e = inr e
 
-nothing_more : (b : Bool) (xs : List Event) → xs ≡ xs ++ cond b [] []
-nothing_more true xs = sym (append-nil xs)
-nothing_more false xs = sym (append-nil xs)
-
 -- a rank that has stopped remains so
 remains : {J S T : Type 0} (r r' : Rank J S T) (turn : Turn) → (turn ≡ TurnStopped → r'.stopped ≡ true) → (turn ≢ TurnStopped → r'.stopped ≡ r.stopped)
     → r.stopped ≡ true → r'.stopped ≡ true
@@ -204,7 +201,7 @@ module _ {J S T P D : Type 0} (log : J → Log) (plain : J → D) (shows : S →
       turn = [];
       last = tt;
       does = refl;
-      kept = nothing_more r.options.trace r.book.events.items;
+      kept = nothing r.options.trace r.book.events.items;
       share = refl;
       idle = λ none. ⊎_elim
           (λ ended. ended_idles (tells p) (tells p) (shows r.seat) r.me agrees knows.number (knows.ended ∙ ended))

@@ -1,10 +1,11 @@
--- Sums over the numbers below a number.
+-- Sums over the numbers mod_below a number.
 use Rattle.std.proofs.Common.{◌≡◌, ℕ, zero, suc, ◌+◌, ◌%◌, ◌==◌, ◌<◌, Bool, true, false, cond, List, [], ◌∷◌, length, get_or, refl, sym, ap, ◌∙◌, arith}
 use Rattle.std.specs.List.{sum_by, flat_map}
 use Rattle.std.proofs.lemmas.Bool.Decides.{nat_tests}
 use Rattle.std.proofs.lemmas.List.Sums.{sum_by-cons, sum_by-append}
 use Rattle.post_board.specs.Shown.{Strings}
 use Rattle.circle_run.specs.Stages.{dealt_from}
+use Rattle.std.proofs.lemmas.Nat.{mod_below}
 
 abbrev pub upto : (ℕ → ℕ) → ℕ → ℕ
 upto f zero = 0
@@ -57,9 +58,6 @@ one_weighs : (w : List ℕ → ℕ) (b : Bool) (s : List ℕ) → sum_by w (cond
 one_weighs w true s = omega (arith, sum_by-cons w s [])
 one_weighs w false s = refl
 
-below : (k n : ℕ) → 0 < n → k % n < n
-below k n h = omega arith
-
 pub dealt_all : (w : List ℕ → ℕ) (n k : ℕ) (starts : Strings) → 0 < n → upto (λ r. sum_by w (dealt_from n r k starts)) n ≡ sum_by w starts
 dealt_all w n k [] h = upto_none n
 dealt_all w n k (s ∷ starts) h =
@@ -67,7 +65,7 @@ dealt_all w n k (s ∷ starts) h =
     (λ r b. sum_by-append w (cond (k % n == r) (s ∷ []) []) (dealt_from n r (suc k) starts)
     ∙ ap (λ (x : ℕ). x + sum_by w (dealt_from n r (suc k) starts)) (one_weighs w (k % n == r) s))
     ∙ upto_add (λ r. cond (k % n == r) (w s) 0) (λ r. sum_by w (dealt_from n r (suc k) starts)) n
-    ∙ (λ i. upto_one (k % n) n (w s) (below k n h) i + dealt_all w n (suc k) starts h i)
+    ∙ (λ i. upto_one (k % n) n (w s) (mod_below k n h) i + dealt_all w n (suc k) starts h i)
     ∙ sym (sum_by-cons w s starts)
 
 -- the logs of all ranks

@@ -19,6 +19,7 @@ use Rattle.entry_pages.specs.declared.entries.Entry.{Entry}
 use Rattle.flat_list.specs.Spelling.{paths}
 use Rattle.compare_report.specs.Outputs.{picks, is_new, IsJoined}
 use Rattle.compare_report.specs.PrivatePicks.{picks_but}
+use Rattle.run_entries.proofs.Chosen.{order_kept}
 
 -- how often a path is that of an entry
 abbrev one : List ℕ → List ℕ → ℕ
@@ -158,24 +159,6 @@ picks_new top wanted first (e ∷ es) =
       | false ↦ picks_new top wanted first es
     ]
 
-pub picked_ascend : (p : Entry → Bool) (es : List Entry) → IsStrictlySortedBy path_cmp (paths es) → IsStrictlySortedBy path_cmp (paths (filter p es))
-unfolding IsStrictlySortedBy
-picked_ascend p [] s = tt
-picked_ascend p (e ∷ es) s =
-    let rest = picked_ascend p es s.1 in
-    elim (p e) as (λ b. IsStrictlySortedBy path_cmp (paths (cond b (e ∷ filter p es) (filter p es)))) [
-      | true ↦ (less e.path es s.0, rest)
-      | false ↦ rest
-    ]
-  where
-    less : (x : List ℕ) (es : List Entry) → AllByRecursion (λ z. path_cmp x z ≡ Less) (paths es) →
-        AllByRecursion (λ z. path_cmp x z ≡ Less) (paths (filter p es))
-    less x [] h = tt
-    less x (f ∷ es) h = elim (p f) as (λ b. AllByRecursion (λ z. path_cmp x z ≡ Less) (paths (cond b (f ∷ filter p es) (filter p es)))) [
-      | true ↦ (h.0, less x es h.1)
-      | false ↦ less x es h.1
-    ]
-
 -- ---- step by step
 
 -- what was added of the first list, the paths of that, what was added of the second, and the list in order
@@ -193,7 +176,7 @@ pub given_ascend : (top : List ℕ) (of_first : List (List ℕ)) (left one_list 
     one_list ≡ filter (picks_but top of_first []) left →
     given ≡ paths one_list → IsStrictlySortedBy path_cmp (paths left) → IsStrictlySortedBy path_cmp given
 given_ascend top of_first left one_list given is are s =
-    subst (IsStrictlySortedBy path_cmp) (sym (are ∙ ap paths is)) (picked_ascend (picks_but top of_first []) left s)
+    subst (IsStrictlySortedBy path_cmp) (sym (are ∙ ap paths is)) (order_kept (picks_but top of_first []) left s)
 
 pub by_steps : (first_top second_top : List ℕ) (of_first of_second : List (List ℕ)) (left right one_list : List Entry) (given : List (List ℕ))
     (both list : List Entry) →
@@ -208,5 +191,5 @@ by_steps first_top second_top of_first of_second left right one_list given both 
     s.second ∙ (λ i. one_is i ++ filter (picks_but second_top of_second (paths_are i)) right) ∙ ap (λ l. first ++ l)
     (picks_new second_top of_second first right)
     in
-    joined first second list (picked_ascend (picks first_top of_first) left s.left_ascends) (picked_ascend (picks second_top of_second) right s.right_ascends)
+    joined first second list (order_kept (picks first_top of_first) left s.left_ascends) (order_kept (picks second_top of_second) right s.right_ascends)
     (subst (λ l. IsPermutation l list) both_are s.moved) s.sorted

@@ -14,7 +14,7 @@ use Rattle.entry_pages.specs.declared.entries.Entry.{Entry}
 use Rattle.tree_cmp.specs.declared.conditions.Condition.{Condition}
 use Rattle.tree_cmp.specs.declared.rows.Row.{Row}
 use Rattle.compare_report.specs.Outputs.{is_given, given_paths, is_new, IsJoined}
-use Rattle.compare_report.proofs.Picked.{none_some, some_same}
+use Rattle.tree_cmp.proofs.Passing.{some_same, none_some}
 
 taken_by : (rows : List Row) (k : ℕ) (row : Row) → slice_get rows k ≡ Some row → take (k + 1) rows ≡ take k rows ++ row ∷ []
 taken_by rows k row at =

@@ -15,6 +15,7 @@ use Rattle.std.proofs.lemmas.List.Elements.{recursion_from_All, All-push}
 use Rattle.path_text.specs.Order.{path_cmp}
 use Rattle.path_text.specs.Total.{path_cmp_total, path_cmp_ties, path_cmp_same}
 use Rattle.compare_report.specs.PrivatePicks.{IsPassed}
+use Rattle.tree_walk.proofs.Same.{higher}
 
 abbrev same : List ℕ → List ℕ → Bool
 same = pointwise nat_eq
@@ -47,18 +48,13 @@ sorted_drop zero paths s = s
 sorted_drop (suc at) [] s = tt
 sorted_drop (suc at) (p ∷ paths) s = sorted_drop at paths s.1
 
-all_after : (q p : List ℕ) (paths : List (List ℕ)) → path_cmp q p ≡ Less → AllByRecursion (λ x. path_cmp p x ≡ Less) paths →
-    AllByRecursion (λ x. path_cmp q x ≡ Less) paths
-all_after q p [] e h = tt
-all_after q p (x ∷ paths) e h = (path_cmp_total.trans q p x e h.0, all_after q p paths e h.1)
-
 none_from : (q : List ℕ) (paths : List (List ℕ)) (x : List ℕ) (rest : List (List ℕ)) → paths ≡ x ∷ rest → IsStrictlySortedBy path_cmp paths →
     path_cmp q x ≡ Less →
     list_any (same q) paths ≡ false
 unfolding IsStrictlySortedBy
 none_from q paths x rest is s e =
     let t = subst (IsStrictlySortedBy path_cmp) is s in
-    ap (list_any (same q)) is ∙ none_behind q (x ∷ rest) (e, all_after q x rest e t.0)
+    ap (list_any (same q)) is ∙ none_behind q (x ∷ rest) (e, higher q x rest e t.0)
 
 -- no path is left
 pub at_end : (paths : List (List ℕ)) (at : ℕ) (q : List ℕ) → IsPassed paths at q → length paths ≤ at → list_any (same q) paths ≡ false

@@ -1,6 +1,6 @@
 -- One pass over the entries of a list.
-use Rattle.std.proofs.Common.{◌≡◌, ⊎_elim, ℕ, ◌+◌, ◌-◌, ◌<◌, zero, suc, Bool, List, [], ◌∷◌, ◌++◌, length, take, get_or, cond}
-use Rattle.std.proofs.Common.{true, filter, Some, None, ap, sym, ◌∙◌, subst, arith, add-one, append_assoc}
+use Rattle.std.proofs.Common.{◌≡◌, ⊎_elim, ℕ, ◌+◌, ◌-◌, ◌<◌, Bool, List, [], ◌∷◌, ◌++◌, length, take, get_or, cond}
+use Rattle.std.proofs.Common.{true, filter, Some, ap, sym, ◌∙◌, subst, arith, add-one, append_assoc}
 use Rattle.std.specs.Prelude.{slice_get, IsTrue}
 use Rattle.std.specs.List.{All}
 use Rattle.std.specs.List.Sorted.{IsStrictlySortedBy}
@@ -15,18 +15,13 @@ use Rattle.entry_pages.specs.declared.entries.Entry.{Entry}
 use Rattle.flat_list.specs.Spelling.{paths}
 use Rattle.compare_report.specs.PrivatePicks.{IsPassed, IsNext}
 use Rattle.compare_report.proofs.Passed.{passed_later}
+use Rattle.tree_cmp.proofs.Passing.{sorted_next, some_same, none_some}
 
 -- the entry that a cursor came to
 pub record IsHere (side : List Entry) (k : ℕ) (e : Entry) (cursor : List Entry × ℕ) : Type 0 where
   pub inside : k < length side
   pub is : get_or side k e ≡ e
   pub moved : cursor ≡ (side, k + 1)
-
-pub some_same : {A : Type 0} (x y : A) → Some x ≡ Some y → x ≡ y
-some_same x y e = cc
-
-pub none_some : {A : Type 0} (x : A) → None ≡ Some x → ⊥
-none_some x e = absurd (cc)
 
 some_here : (side : List Entry) (k : ℕ) (e : Entry) → slice_get side k ≡ Some e → (k < length side) × (get_or side k e ≡ e)
 some_here side k e is =
@@ -41,15 +36,6 @@ here side old new e more same passed some is =
     let of : new.0 ≡ side = ap (λ (p : List Entry × ℕ). p.0) moved ∙ same in
     let found = some_here side old.1 e ((λ i. slice_get (sym of i) (sym at i)) ∙ is) in
     record { inside = found.0; is = found.1; moved = moved ∙ (λ i. (same i, old.1 + 1)) }
-
--- the next one is behind it
-sorted_next : (es : List Entry) (k : ℕ) (d : Entry) → IsStrictlySortedBy path_cmp (paths es) → suc k < length es →
-    path_cmp (get_or es k d).path (get_or es (suc k) d).path ≡ Less
-unfolding IsStrictlySortedBy
-sorted_next [] k d s l = absurd (omega (arith, l))
-sorted_next (e ∷ []) k d s l = absurd (omega (arith, l))
-sorted_next (e ∷ f ∷ es) zero d s l = s.0.0
-sorted_next (e ∷ f ∷ es) (suc k) d s l = sorted_next (f ∷ es) k d s.1 (omega (arith, l))
 
 -- two entries that follow each other
 follow : (side : List Entry) (k : ℕ) (e d : Entry) (new : List Entry × ℕ) → IsHere side k e new → IsStrictlySortedBy path_cmp (paths side) →

@@ -4,11 +4,11 @@ use Rattle.std.specs.List.{sum_by, flat_map}
 use Rattle.std.proofs.lemmas.List.Sums.{sum_by-append}
 use Rattle.std.proofs.lemmas.List.Sorted.{sum_by-IsPermutation}
 use Rattle.entry_pages.specs.declared.entries.Entry.{Entry}
-use Rattle.tree_walk.specs.Walk.{Answer, told, all_told, walk, weight, weight_of}
+use Rattle.tree_walk.specs.Walk.{all_told, walk, weight_of}
 use Rattle.tree_walk.specs.Found.{IsWalkOf}
 use Rattle.tree_walk.specs.Cut.{IsJoined}
 use Rattle.tree_walk.proofs.Covers.{from_apart}
-use Rattle.tree_walk.proofs.Lawful.{none_failed, all_told_in}
+use Rattle.tree_walk.proofs.Lawful.{all_told_in}
 use Rattle.tree_walk.proofs.Ordered.{in_order}
 use Rattle.tree_walk.proofs.Restarts.{restart_is_walk}
 use Rattle.cut_laws.specs.Local.{RestartIsWalkInEach, FineWalksAreOne, RestartFindsTheWalk}
@@ -21,9 +21,6 @@ restart_is_walk_in_each stopped again other starts left done later list t valid 
     walks_are_local stopped other starts list there (restart_is_walk stopped starts left done later list t valid apart cut here joined)
 
 -- ---- where no answer failed
-
-pub weightless : (answer : Answer) → weight answer ≡ 0 → answer ≡ told 0
-weightless answer h = none_failed answer h
 
 pub fine_walks_are_one : FineWalksAreOne
 fine_walks_are_one files starts list other apart walks others fine fine' =

@@ -25,9 +25,10 @@ use Rattle.flat_list.proofs.Ordered.{sort_order_total}
 use Rattle.tree_walk.specs.Walk.{bare, paths_of}
 use Rattle.tree_walk.proofs.AnyOrder.{moved}
 use Rattle.tree_walk.proofs.Covers.{one}
-use Rattle.tree_walk.proofs.Once.{one-same, sum_by-map}
+use Rattle.tree_walk.proofs.Once.{one-same}
 use Rattle.tree_walk.proofs.Same.{unequal}
 use Rattle.cut_laws.specs.Sorts.{SortsAreUnique}
+use Rattle.circle_run.proofs.Maps.{sum_by-map}
 
 -- ---- paths in an order that ties no two of them
 

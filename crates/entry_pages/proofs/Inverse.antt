@@ -21,9 +21,7 @@ use Rattle.path_text.specs.declared.errors.OutOfMemory.{OutOfMemory}
 use Rattle.std.specs.Str.{IsUtf8}
 use Rattle.std.proofs.lemmas.Str.{is_utf8-from_IsUtf8}
 use Rattle.std.specs.Str.{is_utf8}
-
-pub same_of_eq : (x y : ℕ) → nat_eq x y ≡ true → x ≡ y
-same_of_eq x y e = grind (arith, e)
+use Rattle.std.proofs.lemmas.Map.Views.{exact_unsigned_eq}
 
 cons_same : (x y : ℕ) (s t : List ℕ) → x ≡ y → s ≡ t → x ∷ s ≡ y ∷ t
 cons_same x y s t e f = cc
@@ -38,7 +36,7 @@ prefix_same (x ∷ xs) (y ∷ ys) =
     elim (nat_eq x y) as (λ t. nat_eq x y ≡ t
     → take (cond t (1 + common_prefix_len nat_eq xs ys) 0) (x ∷ xs) ≡ take (cond t (1 + common_prefix_len nat_eq xs ys) 0) (y ∷ ys)) [
       | true ↦ λ e. take_suc (common_prefix_len nat_eq xs ys) x xs
-          ∙ (cons_same x y (take (common_prefix_len nat_eq xs ys) xs) (take (common_prefix_len nat_eq xs ys) ys) (same_of_eq x y e)
+          ∙ (cons_same x y (take (common_prefix_len nat_eq xs ys) xs) (take (common_prefix_len nat_eq xs ys) ys) (exact_unsigned_eq x y e)
           (prefix_same xs ys)) ∙ sym (take_suc (common_prefix_len nat_eq xs ys) y ys)
       | false ↦ λ e. refl
     ] refl

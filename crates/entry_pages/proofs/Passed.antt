@@ -42,10 +42,10 @@ pub any_rests : (p : List ℕ) (es : List Entry) → rests_from 0 p es ≡ rests
 any_rests p [] = refl
 any_rests p (e ∷ es) = refl
 
-first_head : (a b : Head) (s t : List Head) → a ∷ s ≡ b ∷ t → a ≡ b
+pub first_head : (a b : Head) (s t : List Head) → a ∷ s ≡ b ∷ t → a ≡ b
 first_head a b s t e = cc
 
-rest_heads : (a b : Head) (s t : List Head) → a ∷ s ≡ b ∷ t → s ≡ t
+pub rest_heads : (a b : Head) (s t : List Head) → a ∷ s ≡ b ∷ t → s ≡ t
 rest_heads a b s t e = cc
 
 path_told : (passed : ℕ) (before : List ℕ) (x : Entry) (h : Head) (more bytes : List ℕ) → head_by passed before x ≡ h

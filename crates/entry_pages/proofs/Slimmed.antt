@@ -30,6 +30,7 @@ use Rattle.std.proofs.lemmas.Str.{is_utf8-from_IsUtf8, IsUtf8-from_is_utf8}
 use Rattle.std.proofs.lemmas.Bool.{and_parts, false≢true}
 use Rattle.std.proofs.lemmas.List.Folds.{list_all-append, list_all_at}
 use Rattle.entry_pages.proofs.Inverse.{starts_more}
+use Rattle.path_text.proofs.Told.{some_length}
 
 some_back : (k : Kind) (size : ℕ) (t : Option ℕ) →
     stat_shown (kind_shown k) size (if is_some t then Some (seconds_or t) else None) ≡ Some (record { kind = k; size = size; mtime = t })
@@ -47,10 +48,6 @@ stat_back None = refl
 stat_back (Some stat) = some_back stat.kind stat.size stat.mtime
 
 -- ---- targets
-
--- a link's text is not empty, and not long
-some_length : (s : List ℕ) → 0 < length s → (length s == 0) ≡ false
-some_length s h = grind (arith, nat_tests)
 
 pub text_some : (t : List ℕ) → link_refusal t ≡ None → (length t == 0) ≡ false
 text_some [] h = cc

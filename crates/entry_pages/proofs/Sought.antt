@@ -17,7 +17,9 @@ use Rattle.entry_pages.specs.declared.entries.Mark.TheVariants.{Fine}
 use Rattle.entry_pages.specs.Pack.{Head}
 use Rattle.entry_pages.specs.Pack.{shared_by, rest_by, head_by, heads_from, rests_from, last_path, same_after, place_of}
 use Rattle.entry_pages.specs.Private.Kept.{IsSeek, IsKept}
-use Rattle.entry_pages.proofs.Inverse.{same_of_eq, last_more, kept_many, shared_short, rests_behind}
+use Rattle.entry_pages.proofs.Inverse.{last_more, kept_many, shared_short, rests_behind}
+use Rattle.std.proofs.lemmas.Map.Views.{exact_unsigned_eq}
+use Rattle.entry_pages.proofs.Passed.{first_head, rest_heads}
 
 -- two lists from their first elements on
 both_on : (x y : ℕ) (xs ys : List ℕ) → nat_eq x y ≡ true → common_prefix_len nat_eq (x ∷ xs) (y ∷ ys) ≡ 1 + common_prefix_len nat_eq xs ys
@@ -30,10 +32,10 @@ drop_suc : (n x : ℕ) (xs : List ℕ) → drop (1 + n) (x ∷ xs) ≡ drop n xs
 drop_suc n x xs = let one : 1 + n ≡ suc n = omega arith in ap (λ (k : ℕ). drop k (x ∷ xs)) one
 
 differ : (x y z : ℕ) → nat_eq x y ≡ true → nat_eq x z ≡ false → nat_eq y z ≡ false
-differ x y z e f = let same = same_of_eq x y e in ap (λ (y : ℕ). nat_eq y z) (sym same) ∙ f
+differ x y z e f = let same = exact_unsigned_eq x y e in ap (λ (y : ℕ). nat_eq y z) (sym same) ∙ f
 
 agree : (x y z : ℕ) → nat_eq x y ≡ true → nat_eq x z ≡ true → nat_eq y z ≡ true
-agree x y z e f = let same = same_of_eq x y e in ap (λ (y : ℕ). nat_eq y z) (sym same) ∙ f
+agree x y z e f = let same = exact_unsigned_eq x y e in ap (λ (y : ℕ). nat_eq y z) (sym same) ∙ f
 
 -- the wanted one leaves the path before it sooner than the path does
 pub shares_less : (b p w : List ℕ) → common_prefix_len nat_eq b w < common_prefix_len nat_eq b p →
@@ -138,12 +140,6 @@ seek_first hs starts bytes path wanted entries k = record {
   shared = refl;
   none = omega arith;
 }
-
-first_head : (a b : Head) (s t : List Head) → a ∷ s ≡ b ∷ t → a ≡ b
-first_head a b s t e = cc
-
-rest_heads : (a b : Head) (s t : List Head) → a ∷ s ≡ b ∷ t → s ≡ t
-rest_heads a b s t e = cc
 
 take_some : (xs : List ℕ) (n : ℕ) (ys more : List ℕ) → n ≡ length ys → ys ++ more ≡ xs → take n xs ≡ ys
 take_some xs n ys more e f = ap (λ (n : ℕ). take n xs) e ∙ ap (take (length ys)) (sym f) ∙ take-append_seam ys more

@@ -1,7 +1,7 @@
 -- Where the children of a path stand among keys in path order.
 use Rattle.std.proofs.Common.{◌≡◌, ℕ, ◌<◌, ◌≤◌, Bool, true, false, ◌&&◌, ◌||◌, ◌⊎◌, inl, inr, List, [], ◌∷◌, ◌++◌, length, refl, ap, ◌∙◌, sym, subst}
 use Rattle.std.proofs.Common.{arith, cond, eqb, Some, None, append_assoc, length-append}
-use Rattle.std.proofs.lemmas.Bool.{false≢true}
+use Rattle.std.proofs.lemmas.Bool.{false≢true, or_parts}
 use Rattle.std.specs.Prelude.{◌==◌, nat_lt}
 use Rattle.std.specs.List.{list_any, starts_with}
 use Rattle.std.specs.Ordering.{nat_cmp, ordering_then, is_le}
@@ -9,18 +9,16 @@ use Rattle.std.specs.declared.cmp.Ordering.{Ordering}
 use Rattle.std.specs.declared.cmp.Ordering.TheVariants.{Less, Equal, Greater}
 use Rattle.std.proofs.lemmas.Bool.Decides.{nat_tests}
 use Rattle.path_text.specs.Order.{path_cmp, byte_rank, front}
-use Rattle.path_text.proofs.Preorder.{before_all, front-joined}
+use Rattle.path_text.proofs.Preorder.{before_all, front-joined, self_equal}
 use Rattle.path_text.specs.Path.{is_slash, refusal, joined}
 use Rattle.outside.specs.Tree.{is_one_name, name_below}
 use Rattle.outside.proofs.Children.{name_below-front, name_below-off, child_is, one_name_parts}
 use Rattle.path_text.proofs.Parts.{short}
 use Rattle.files_mem.proofs.Nul.{is_nul, no_nul}
+use Rattle.path_text.proofs.Fronts.{has_slash}
 
 pub joined_front : (p m : List ℕ) → joined p m ≡ front p ++ m
 joined_front p m = sym (front-joined p m)
-
-self_equal : (a : ℕ) (rest : Ordering) → ordering_then (nat_cmp (byte_rank a) (byte_rank a)) rest ≡ rest
-self_equal a rest = grind (arith, nat_tests)
 
 -- all that is under a path comes before what the path with a low byte begins
 pub below_past : (k : List ℕ) → path_cmp k (k ++ 1 ∷ []) ≡ Less
@@ -39,23 +37,15 @@ same_byte : (a c : ℕ) (r s : Ordering) → ordering_then (nat_cmp (byte_rank a
     → ordering_then (nat_cmp (byte_rank a) (byte_rank c)) s ≡ Greater → (c ≡ a) × ((r ≡ Less) × (s ≡ Greater))
 same_byte a c r s e f = (grind (arith, nat_tests), (grind (arith, nat_tests), grind (arith, nat_tests)))
 
-neither : (a b : Bool) → (a || b) ≡ false → (a ≡ false) × (b ≡ false)
-neither true b e = absurd (false≢true (sym e))
-neither false b e = (refl, e)
-
 -- what lies between a path and the path with a low byte is under the path
 pub between : (k x : List ℕ) → path_cmp k x ≡ Less → path_cmp (k ++ 1 ∷ []) x ≡ Greater → list_any is_nul x ≡ false → (r : List ℕ) × (x ≡ k ++ 47 ∷ r)
 between [] [] e g n = cc
-between [] (c ∷ x) e g n = (x, ap (λ b. b ∷ x) (low_byte c (path_cmp [] x) (of_nil x) g (neither (c == 0) (list_any is_nul x) n).0))
+between [] (c ∷ x) e g n = (x, ap (λ b. b ∷ x) (low_byte c (path_cmp [] x) (of_nil x) g (or_parts (c == 0) (list_any is_nul x) n).0))
 between (a ∷ k) [] e g n = cc
 between (a ∷ k) (c ∷ x) e g n =
     let s = same_byte a c (path_cmp k x) (path_cmp (k ++ 1 ∷ []) x) e g in
-    let r = between k x s.1.0 s.1.1 (neither (c == 0) (list_any is_nul x) n).1 in
+    let r = between k x s.1.0 s.1.1 (or_parts (c == 0) (list_any is_nul x) n).1 in
     (r.0, λ i. s.0 i ∷ r.1 i)
-
-has_slash : (a r : List ℕ) → list_any is_slash (a ++ 47 ∷ r) ≡ true
-has_slash [] r = refl
-has_slash (b ∷ a) r = elim (is_slash b) as (λ s. (s || list_any is_slash (a ++ 47 ∷ r)) ≡ true) [ true ↦ refl | false ↦ has_slash a r ]
 
 not_one : (name : List ℕ) → list_any is_slash name ≡ true → is_one_name name ≡ false
 not_one name e = grind (arith, nat_tests)
@@ -109,8 +99,9 @@ nil_least (c ∷ x) = refl
 
 from_front : (f m : List ℕ) → 0 < length m → list_any is_slash m ≡ false → list_any is_nul (f ++ m) ≡ false → is_le (path_cmp (f ++ 1 ∷ []) (f ++ m)) ≡ true
 from_front [] [] h s n = absurd (omega arith)
-from_front [] (c ∷ m) h s n = least c (path_cmp [] m) (nil_least m) (neither (c == 0) (list_any is_nul m) n).0 (neither (is_slash c) (list_any is_slash m) s).0
-from_front (a ∷ f) m h s n = ap is_le (self_equal a (path_cmp (f ++ 1 ∷ []) (f ++ m))) ∙ from_front f m h s (neither (a == 0) (list_any is_nul (f ++ m)) n).1
+from_front [] (c ∷ m) h s n = least c (path_cmp [] m) (nil_least m) (or_parts (c == 0) (list_any is_nul m) n).0
+    (or_parts (is_slash c) (list_any is_slash m) s).0
+from_front (a ∷ f) m h s n = ap is_le (self_equal a (path_cmp (f ++ 1 ∷ []) (f ++ m))) ∙ from_front f m h s (or_parts (a == 0) (list_any is_nul (f ++ m)) n).1
 
 -- no child comes before it
 pub child_from : (p x m : List ℕ) → name_below p x ≡ Some m → refusal x ≡ None → is_le (path_cmp (front p ++ 1 ∷ []) x) ≡ true

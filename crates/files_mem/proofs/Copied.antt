@@ -11,7 +11,6 @@ use Rattle.std.specs.Ordering.{eq_by_cmp, is_le}
 use Rattle.std.specs.declared.cmp.Ordering.{Ordering}
 use Rattle.std.specs.declared.cmp.Ordering.TheVariants.{Less, Equal, Greater}
 use Rattle.std.specs.Cmp.Lexicographic.{pointwise, bytes_decides}
-use Rattle.std.proofs.lemmas.Cmp.{tied_itself}
 use Rattle.std.proofs.lemmas.Map.Keys.{sorted_head, sorted_tail}
 use Rattle.path_text.specs.Order.{path_cmp, is_within, is_under}
 use Rattle.path_text.specs.Path.{refusal}
@@ -23,6 +22,8 @@ use Rattle.files_mem.specs.declared.nodes.Node as stored
 use Rattle.files_mem.specs.Stored.{node_of, files_of, AllValid}
 use Rattle.files_mem.specs.PrivateHeld.{copied}
 use Rattle.files_mem.proofs.Listed.{Entries, told, from, reach, reach_is, IsSorted, AllAfter, AllReady, ready_from, from_end, sorted_end, all_end}
+use Rattle.path_text.proofs.Moved.{equal}
+use Rattle.files_mem.proofs.Treed.{same_path}
 
 -- what the entries have at a path
 abbrev pub has : List ℕ → Entries → Option Node
@@ -40,12 +41,6 @@ over_more : (es : Entries) (e : List ℕ × stored.Node) (q : List ℕ) (o : Opt
     → over (es ++ e ∷ []) q o ≡ cond (eq_by_cmp path_cmp q e.0) (Some (node_of e.1)) (over es q o)
 over_more [] e q o = refl
 over_more (x ∷ es) e q o = over_more es e q (cond (eq_by_cmp path_cmp q x.0) (Some (node_of x.1)) o)
-
-itself : (k : List ℕ) → path_cmp k k ≡ Equal
-itself k = tied_itself path_cmp_total k
-
-same_path : (q p : List ℕ) → eq_by_cmp path_cmp q p ≡ true → q ≡ p
-same_path q p e = (bytes_decides q p).0 (path_cmp_ties q p ∙ e)
 
 -- the loop: what is done is the front of what is from the top on, all within it, and was put
 pub record Copying (top : List ℕ) (from_files : Files) (es : Entries) (old new : Files) : Type 0 where
@@ -109,7 +104,7 @@ less_other q k l = elim (eq_by_cmp path_cmp q k) as (λ b. eq_by_cmp path_cmp q 
 ] refl
   where
     by : path_cmp k k ≡ Less → ⊥
-    by e = clash (sym e ∙ itself k)
+    by e = clash (sym e ∙ equal k)
       where
         clash : Less ≡ Equal → ⊥
         clash e = cc
@@ -157,7 +152,7 @@ after_off : (top x q : List ℕ) → refusal top ≡ None → refusal x ≡ None
     → is_within q top ≡ true → path_cmp x q ≡ Less → ⊥
 after_off top x q ft fx l off on m =
     elim (pointwise nat_eq q top) as (λ b. pointwise nat_eq q top ≡ b → (b || is_under q top) ≡ true → ⊥) [
-      | true ↦ λ is _. clash (sym (path_cmp_total.trans top x top l (ap (path_cmp x) (sym ((bytes_decides q top).0 is)) ∙ m)) ∙ itself top)
+      | true ↦ λ is _. clash (sym (path_cmp_total.trans top x top l (ap (path_cmp x) (sym ((bytes_decides q top).0 is)) ∙ m)) ∙ equal top)
       | false ↦ λ _ u. false≢true (sym off ∙ ap (λ b. pointwise nat_eq x top || b) (contiguous.between top x q ft fx l m u) ∙ or_true (pointwise nat_eq x top))
     ] refl on
   where
@@ -201,7 +196,7 @@ stops top k q n rest ft fk le off on s =
 -- what is at or under a path does not come before it
 within_after : (top q : List ℕ) → is_within q top ≡ true → is_le (path_cmp top q) ≡ true
 within_after top q on = elim (pointwise nat_eq q top) as (λ b. pointwise nat_eq q top ≡ b → (b || is_under q top) ≡ true → is_le (path_cmp top q) ≡ true) [
-  | true ↦ λ is _. ap is_le (ap (path_cmp top) ((bytes_decides q top).0 is) ∙ itself top)
+  | true ↦ λ is _. ap is_le (ap (path_cmp top) ((bytes_decides q top).0 is) ∙ equal top)
   | false ↦ λ _ u. ap is_le (top_down top q u)
 ] refl on
   where

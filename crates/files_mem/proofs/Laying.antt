@@ -5,7 +5,7 @@ use Rattle.std.proofs.lemmas.Bool.{false≢true}
 use Rattle.std.specs.Prelude.{Result, Ok, Err, OnOk, OnErr}
 use Rattle.std.proofs.lemmas.List.{take_more, take_all}
 use Rattle.std.specs.List.{list_any}
-use Rattle.std.specs.FinMap.{get, empty, get-empty, get-retain_keys, same_map}
+use Rattle.std.specs.FinMap.{get, empty, get-empty, same_map}
 use Rattle.path_text.specs.Order.{path_cmp, is_within}
 use Rattle.path_text.specs.Total.{path_cmp_total, path_cmp_same}
 use Rattle.outside.specs.Tree.{Files, Node}
@@ -14,12 +14,7 @@ use Rattle.outside.specs.Writes.{Cut}
 use Rattle.outside.specs.Spans.{without_cut}
 use Rattle.outside.specs.Laid.{laid, get_laid}
 use Rattle.files_mem.specs.PrivateHeld.{copied, Back, Lending, laid_all}
-
-pub leased_is : (tops : List (List ℕ)) (files : Files) (q : List ℕ) → get (leased tops files) q ≡ cond (in_tops tops q) (get files q) None
-leased_is tops files q = get-retain_keys files (in_tops tops) q (λ x e. ap (in_tops tops) (sym (path_cmp_same q x e)))
-
-pub kept_is : (tops : List (List ℕ)) (files : Files) (q : List ℕ) → get (kept tops files) q ≡ cond (not (in_tops tops q)) (get files q) None
-kept_is tops files q = get-retain_keys files (λ x. not (in_tops tops x)) q (λ x e. ap (λ y. not (in_tops tops y)) (sym (path_cmp_same q x e)))
+use Rattle.outside.proofs.Leased.{get_rest, get_part}
 
 -- what is copied into nothing is what is leased
 pub all_leased : (tops : List (List ℕ)) (files part : Files)
@@ -27,7 +22,7 @@ pub all_leased : (tops : List (List ℕ)) (files part : Files)
 all_leased tops files part h =
     same_map path_cmp_total path_cmp_same part (leased tops files)
     (λ q. h q ∙ ap (copied (in_tops tops q) (get files q)) (get-empty path_cmp q) ∙ by (in_tops tops q) (get files q)
-    ∙ sym (leased_is tops files q))
+    ∙ sym (get_part tops files q))
   where
     by : (b : Bool) (o : Option Node) → copied b o None ≡ cond b o None
     by true None = refl
@@ -39,8 +34,8 @@ pub all_kept : (tops : List (List ℕ)) (files new : Files)
     → ((q : List ℕ) → get new q ≡ cond (is_some (get (leased tops files) q)) None (get files q)) → new ≡ kept tops files
 all_kept tops files new h =
     same_map path_cmp_total path_cmp_same new (kept tops files)
-    (λ q. h q ∙ ap (λ o. cond (is_some o) None (get files q)) (leased_is tops files q) ∙ by (in_tops tops q) (get files q)
-    ∙ sym (kept_is tops files q))
+    (λ q. h q ∙ ap (λ o. cond (is_some o) None (get files q)) (get_part tops files q) ∙ by (in_tops tops q) (get files q)
+    ∙ sym (get_rest tops files q))
   where
     by : (b : Bool) (o : Option Node) → cond (is_some (cond b o None)) None o ≡ cond (not b) o None
     by true None = refl
@@ -51,7 +46,7 @@ all_kept tops files new h =
 pub joins : (tops : List (List ℕ)) (own rest mid after : Files) → ((q : List ℕ) → get mid q ≡ cond (is_some (get (leased tops rest) q)) None (get rest q)) →
     ((q : List ℕ) → get after q ≡ copied (in_tops tops q) (get own q) (get mid q)) → Joins tops own rest after
 joins tops own rest mid after h k q = k q
-    ∙ ap (copied (in_tops tops q) (get own q)) (h q ∙ ap (λ o. cond (is_some o) None (get rest q)) (leased_is tops rest q))
+    ∙ ap (copied (in_tops tops q) (get own q)) (h q ∙ ap (λ o. cond (is_some o) None (get rest q)) (get_part tops rest q))
     ∙ by (in_tops tops q) (get own q) (get rest q)
   where
     by : (b : Bool) (o r : Option Node) → copied b o (cond (is_some (cond b r None)) None r) ≡ cond b o r
@@ -63,7 +58,7 @@ joins tops own rest mid after h k q = k q
 pub still : (tops : List (List ℕ)) (rest mid : Files)
     → ((q : List ℕ) → get mid q ≡ cond (is_some (get (leased tops rest) q)) None (get rest q)) → (q : List ℕ) → in_tops tops q ≡ false
     → get mid q ≡ get rest q
-still tops rest mid h q off = h q ∙ ap (λ o. cond (is_some o) None (get rest q)) (leased_is tops rest q ∙ ap (λ b. cond b (get rest q) None) off)
+still tops rest mid h q off = h q ∙ ap (λ o. cond (is_some o) None (get rest q)) (get_part tops rest q ∙ ap (λ b. cond b (get rest q) None) off)
 
 -- one map joins
 pub laid_is : (tops : List (List ℕ)) (own rest after : Files) → Joins tops own rest after → after ≡ laid tops own rest

@@ -15,15 +15,15 @@ use Rattle.outside.specs.Lease.{in_tops, leased, kept, HaveParents, CanLease, sa
 use Rattle.outside.specs.Parts.{AreTops, IsPart}
 use Rattle.outside.specs.Spans.{cuts_at, without_cut}
 use Rattle.outside.specs.Laid.{laid, get_laid}
-use Rattle.outside.proofs.Leased.{not_in_up, over_top, a_top}
+use Rattle.outside.proofs.Leased.{not_in_up, over_top, a_top, get_rest}
 use Rattle.path_text.proofs.Parents.{parent_under}
 use Rattle.path_text.proofs.Within.{within_up}
 use Rattle.outside.proofs.PartTrees.{leases_keep_trees}
 use Rattle.files_mem.specs.PrivateHeld.{Lending, IsLent, IsClear, AreClear, Lends, IsGround}
 use Rattle.files_mem.specs.Memory.{put_refusal_at}
-use Rattle.files_mem.proofs.Laying.{kept_is}
 use Rattle.files_mem.proofs.Treed.{keeps_dir, same_path, put_tree, write_tree, take_file, take_dir, not_root, file_there, refused_not}
-use Rattle.files_mem.proofs.Treed.{off_here, both_parts, can_write}
+use Rattle.files_mem.proofs.Treed.{off_here, can_write}
+use Rattle.path_text.proofs.Told.{both}
 
 -- a write
 
@@ -35,11 +35,11 @@ lends_dirs old new (tops ∷ out) k l =
 
 all_at : (test : List ℕ → Bool) (xs : List (List ℕ)) (i : ℕ) (x : List ℕ) → slice_get xs i ≡ Some x → list_all test xs ≡ true → test x ≡ true
 all_at test [] i x at e = cc
-all_at test (y ∷ xs) zero x at e = subst (λ z. test z ≡ true) (some_is y x at) (both_parts (test y) (list_all test xs) e).0
+all_at test (y ∷ xs) zero x at e = subst (λ z. test z ≡ true) (some_is y x at) (both (test y) (list_all test xs) e).0
   where
     some_is : (a b : List ℕ) → Some a ≡ Some b → a ≡ b
     some_is a b e = cc
-all_at test (y ∷ xs) (suc i) x at e = all_at test xs i x at (both_parts (test y) (list_all test xs) e).1
+all_at test (y ∷ xs) (suc i) x at e = all_at test xs i x at (both (test y) (list_all test xs) e).1
 
 -- neither of two paths that are apart is within the other
 apart_parts : (a b : Bool) → not (a || b) ≡ true → (a ≡ false) × (b ≡ false)
@@ -58,7 +58,7 @@ lends_apart : (old new : Files) (p : List ℕ) (out : List (List (List ℕ))) �
     → ((x : List ℕ) → eq_by_cmp path_cmp x p ≡ false → get new x ≡ get old x) → Lends old out → Lends new out
 lends_apart old new p [] a k l = tt
 lends_apart old new p (tops ∷ out) a k l =
-    let s = both_parts (is_apart p tops) (list_all (is_apart p) out) a in (
+    let s = both (is_apart p tops) (list_all (is_apart p) out) a in (
       record { are = l.0.are; parents = λ i x at. ap is_dir (k (parent_of x) (other i x at s.0)) ∙ l.0.parents i x at },
       (l.1.0, lends_apart old new p out s.1 k l.1.1),
     )
@@ -73,7 +73,7 @@ lends_apart old new p (tops ∷ out) a k l =
 
 in_area_of : (lent : List (List (List ℕ))) (cut : List Cut) (p : List ℕ) → IsTrue (is_open (all_but lent cut) p)
     → list_all (is_apart p) (all_out lent cut) ≡ true
-in_area_of lent cut p o = (both_parts (list_all (is_apart p) (all_out lent cut)) (not (is_root p)) o).0
+in_area_of lent cut p o = (both (list_all (is_apart p) (all_out lent cut)) (not (is_root p)) o).0
 
 pub put_ground : {B : Type 0} (r : Result (Unit {0}) B) (old new : Lending) (p : List ℕ) (n : Node) → IsGround old
     → put_refusal_at false old.files p ≡ None → refusal p ≡ None →
@@ -124,12 +124,12 @@ all_more P [] x a p = (p, tt)
 all_more P (y ∷ xs) x a p = (a.0, all_more P xs x a.1 p)
 
 kept_off : (tops : List (List ℕ)) (files : Files) (q : List ℕ) → in_tops tops q ≡ false → get (kept tops files) q ≡ get files q
-kept_off tops files q off = kept_is tops files q ∙ ap (λ b. cond (not b) (get files q) None) off
+kept_off tops files q off = get_rest tops files q ∙ ap (λ b. cond (not b) (get files q) None) off
 
 not_in : (tops : List (List ℕ)) (x : List ℕ) → is_apart x tops ≡ true → in_tops tops x ≡ false
 not_in [] x a = refl
 not_in (t ∷ tops) x a =
-    let s = both_parts (not (is_within x t || is_within t x)) (is_apart x tops) a in
+    let s = both (not (is_within x t || is_within t x)) (is_apart x tops) a in
     ap (λ b. b || in_tops tops x) (apart_parts (is_within x t) (is_within t x) s.0).0 ∙ not_in tops x s.1
 
 lends_lease : (files : Files) (tops : List (List ℕ)) (out : List (List (List ℕ))) → AreTops tops → HaveParents tops files
@@ -149,7 +149,7 @@ lends_lease files tops (one ∷ out) t dirs apart l = (
 )
   where
     split : (i : ℕ) (x : List ℕ) → slice_get tops i ≡ Some x → (is_apart x one ≡ true) × (list_all (is_apart x) out ≡ true)
-    split i x at = both_parts (is_apart x one) (list_all (is_apart x) out) (apart i x at)
+    split i x at = both (is_apart x one) (list_all (is_apart x) out) (apart i x at)
 
     clear : IsClear tops one
     clear i y at = elim (in_tops tops (parent_of y)) as (λ b. in_tops tops (parent_of y) ≡ b → b ≡ false) [
@@ -193,7 +193,7 @@ same_is : (xs ys : List (List ℕ)) → same_tops xs ys ≡ true → xs ≡ ys
 same_is [] [] e = refl
 same_is [] (y ∷ ys) e = absurd (false≢true e)
 same_is (x ∷ xs) [] e = absurd (false≢true e)
-same_is (x ∷ xs) (y ∷ ys) e = let s = both_parts (pointwise nat_eq x y) (same_tops xs ys) e in λ i. (bytes_decides x y).0 s.0 i ∷ same_is xs ys s.1 i
+same_is (x ∷ xs) (y ∷ ys) e = let s = both (pointwise nat_eq x y) (same_tops xs ys) e in λ i. (bytes_decides x y).0 s.0 i ∷ same_is xs ys s.1 i
 
 among : (P : List (List ℕ) → Type 0) (tops : List (List ℕ)) (out : List (List (List ℕ))) → AllByRecursion P out
     → list_any (λ one. same_tops one tops) out ≡ true → P tops

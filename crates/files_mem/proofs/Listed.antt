@@ -23,6 +23,7 @@ use Rattle.std.specs.Ordering.{ordering_reverse}
 use Rattle.files_mem.specs.Stored.{files_of, node_of}
 use Rattle.files_mem.proofs.Between.{below_past, none_between, child_from, none_past, past_more, none_long, past_front}
 use Rattle.files_mem.specs.declared.nodes.Node as stored
+use Rattle.std.proofs.lemmas.List.{nil_from_length}
 
 abbrev pub Entries : Type 0
 Entries = List (List ℕ × stored.Node)
@@ -32,10 +33,6 @@ names p es = filter_map (λ e. name_below p e.0) es
 
 abbrev pub told : List ℕ × stored.Node → List ℕ × Node
 told e = (e.0, node_of e.1)
-
-nothing : {A : Type 0} (xs : List A) → length xs ≡ 0 → xs ≡ []
-nothing [] e = refl
-nothing (x ∷ xs) e = absurd (omega arith)
 
 -- es is the end of all
 abbrev pub IsEnd : Entries → Entries → Type 0
@@ -180,7 +177,7 @@ pub entries_of : (es : Entries) → IsSorted es → entries (files_of es) ≡ ma
 entries_of [] s = no_entries
   where
     no_entries : entries (files_of []) ≡ []
-    no_entries = nothing (entries (files_of [])) (sym (len-entries (files_of [])) ∙ len-empty path_cmp Node)
+    no_entries = nil_from_length (entries (files_of [])) (sym (len-entries (files_of [])) ∙ len-empty path_cmp Node)
 entries_of (e ∷ es) s =
     entries-insert path_cmp_total (files_of es) e.0 (node_of e.1)
     ∙ ap (put path_cmp e.0 (node_of e.1)) (entries_of es (sorted_tail path_cmp e.0 (keys_of es) s))

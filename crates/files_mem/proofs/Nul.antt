@@ -3,15 +3,13 @@ use Rattle.std.proofs.Common.{◌≡◌, ℕ, ◌<◌, Bool, true, false, ◌||�
 use Rattle.std.specs.Prelude.{◌==◌}
 use Rattle.std.specs.List.{list_any, slice_split, onto_first}
 use Rattle.std.specs.Option.{is_none}
-use Rattle.std.proofs.lemmas.List.Splits.{length-slice_split}
 use Rattle.std.proofs.lemmas.Bool.Decides.{nat_tests}
 use Rattle.path_text.specs.Path.{is_slash, name_fault, first_fault, refusal}
+use Rattle.std.proofs.lemmas.Bool.{or_from}
+use Rattle.path_text.proofs.Joined.{some_part}
 
 abbrev pub is_nul : ℕ → Bool
 is_nul b = b == 0
-
-some_part : (xs : List ℕ) → 0 < length (slice_split is_slash xs)
-some_part xs = omega (arith, length-slice_split is_slash xs)
 
 any_onto : (x : ℕ) (ps : List (List ℕ)) → 0 < length ps → list_any (list_any is_nul) (onto_first x ps) ≡ (is_nul x || list_any (list_any is_nul) ps)
 any_onto x [] h = absurd (omega arith)
@@ -50,12 +48,9 @@ first_slash b bytes h = grind (arith, nat_tests)
 names_fine : (b c : ℕ) (bytes : List ℕ) → refusal (b ∷ c ∷ bytes) ≡ None → first_fault (slice_split is_slash (c ∷ bytes)) ≡ None
 names_fine b c bytes h = grind (arith, nat_tests)
 
-or_no : (a b : Bool) → a ≡ false → b ≡ false → (a || b) ≡ false
-or_no a b p q = ap (λ x. x || b) p ∙ q
-
 pub no_nul : (x : List ℕ) → refusal x ≡ None → list_any is_nul x ≡ false
 no_nul [] h = refl
-no_nul (b ∷ []) h = or_no (b == 0) false (first_slash b [] h) refl
+no_nul (b ∷ []) h = or_from (b == 0) false (first_slash b [] h) refl
 no_nul (b ∷ c ∷ bytes) h =
-    or_no (b == 0) (list_any is_nul (c ∷ bytes)) (first_slash b (c ∷ bytes) h)
+    or_from (b == 0) (list_any is_nul (c ∷ bytes)) (first_slash b (c ∷ bytes) h)
     (sym (any_split (c ∷ bytes)) ∙ no_fault (slice_split is_slash (c ∷ bytes)) (names_fine b c bytes h))

@@ -17,9 +17,7 @@ use Rattle.path_text.specs.Path.{is_slash, refusal, parent_of}
 use Rattle.files_mem.specs.declared.nodes.Node as stored
 use Rattle.files_mem.specs.Stored.{node_of, files_of, AllValid}
 use Rattle.files_mem.proofs.Found.{get_is}
-
-off : (b : ℕ) → b ≢ 47 → not (is_slash b) ≡ true
-off b e = grind (arith, nat_tests)
+use Rattle.path_text.proofs.Parts.{no_slash}
 
 on : (b : ℕ) → b ≡ 47 → not (is_slash b) ≡ false
 on b e = grind (arith, nat_tests)
@@ -28,7 +26,7 @@ before_is : (xs : List ℕ) (k : ℕ) → k < length xs → get_or xs k 0 ≡ 47
     → before_last is_slash xs ≡ take k xs
 before_is xs k l e h =
     let n : suffix_len (λ x. not (is_slash x)) xs ≡ length xs - (k + 1) =
-    suffix_len_is (λ x. not (is_slash x)) xs (k + 1) 0 (omega arith) (λ i p q. off (get_or xs i 0) (h i (omega arith) q))
+    suffix_len_is (λ x. not (is_slash x)) xs (k + 1) 0 (omega arith) (λ i p q. no_slash (get_or xs i 0) (h i (omega arith) q))
     (λ _. on (get_or xs (k + 1 - 1) 0) (ap (λ i. get_or xs i 0) (back k) ∙ e)) in
     ap (λ i. take i xs) (omega arith)
   where
@@ -38,7 +36,7 @@ before_is xs k l e h =
 before_none : (xs : List ℕ) → ((i : ℕ) → i < length xs → get_or xs i 0 ≢ 47) → before_last is_slash xs ≡ []
 before_none xs h =
     let n : suffix_len (λ x. not (is_slash x)) xs ≡ length xs - 0 =
-    suffix_len_is (λ x. not (is_slash x)) xs 0 0 (omega arith) (λ i p q. off (get_or xs i 0) (h i q)) (λ z. absurd (omega arith)) in
+    suffix_len_is (λ x. not (is_slash x)) xs 0 0 (omega arith) (λ i p q. no_slash (get_or xs i 0) (h i q)) (λ z. absurd (omega arith)) in
     ap (λ i. take i xs) (the_zero (length xs) (suffix_len (λ x. not (is_slash x)) xs) n)
   where
     the_zero : (a b : ℕ) → b ≡ a - 0 → a - b - 1 ≡ 0

@@ -15,7 +15,8 @@ use Rattle.outside.specs.Parts.{IsPart}
 use Rattle.outside.proofs.Parents.{no_child}
 use Rattle.files_mem.specs.declared.errors.PutError.TheVariants.{Exists, NoParent}
 use Rattle.files_mem.specs.Memory.{put_refusal_at}
-use Rattle.files_mem.proofs.Treed.{same_path, keeps_dir, elsewhere, off_here, file_there, no_dir, no_name, both_parts, not_root, can_write}
+use Rattle.files_mem.proofs.Treed.{same_path, keeps_dir, elsewhere, off_here, file_there, no_dir, no_name, not_root, can_write}
+use Rattle.path_text.proofs.Told.{both}
 
 -- what has to be true of the node at the path that is written
 record Here (tops : List (List ℕ)) (new : Files) (p : List ℕ) : Type 0 where
@@ -57,7 +58,7 @@ refused_not None false e = cc
 refused_not (Some n) b e = cc
 
 open_in : (tops : List (List ℕ)) (p : List ℕ) → IsTrue (is_open (under tops) p) → in_tops tops p ≡ true
-open_in tops p o = (both_parts (in_tops tops p) (not (is_root p)) o).0
+open_in tops p o = (both (in_tops tops p) (not (is_root p)) o).0
 
 pub put_part : {B : Type 0} (r : Result (Unit {0}) B) (tops : List (List ℕ)) (old new : Files) (p : List ℕ) (n : Node) → IsPart tops old
     → IsTrue (is_open (under tops) p) → put_refusal_at (is_top (under tops) p) old p ≡ None → refusal p ≡ None →

@@ -5,7 +5,7 @@ use Rattle.std.specs.Option.{is_none, is_some}
 use Rattle.std.specs.Ordering.{eq_by_cmp}
 use Rattle.std.specs.Cmp.Lexicographic.{bytes_decides}
 use Rattle.std.specs.FinMap.{get, insert, empty, remove, get-insert, get-remove, get-empty}
-use Rattle.std.proofs.lemmas.Bool.{false≢true}
+use Rattle.std.proofs.lemmas.Bool.{false≢true, and_from, or_right}
 use Rattle.path_text.specs.Order.{path_cmp}
 use Rattle.path_text.specs.Path.{refusal, parent_of}
 use Rattle.path_text.specs.Total.{path_cmp_total, path_cmp_ties}
@@ -17,6 +17,7 @@ use Rattle.std.specs.Bool.{IsTrue}
 use Rattle.std.proofs.lemmas.Bool.Decides.{nat_tests}
 use Rattle.files_mem.specs.declared.errors.PutError.TheVariants.{Exists, NoParent}
 use Rattle.files_mem.specs.Memory.{put_refusal, empty_files}
+use Rattle.path_text.proofs.Told.{both}
 
 pub same_path : (q p : List ℕ) → eq_by_cmp path_cmp q p ≡ true → q ≡ p
 same_path q p e = (bytes_decides q p).0 (path_cmp_ties q p ∙ e)
@@ -33,16 +34,6 @@ keeps_dir files p x n off d =
       | false ↦ λ e. ap is_dir (elsewhere files p x n e) ∙ d
     ] refl
 
--- an `or` whose right side holds
-pub or_right : (a b : Bool) → b ≡ true → (a || b) ≡ true
-or_right true b e = refl
-or_right false b e = e
-
--- an `and` whose sides hold
-pub both : (a b : Bool) → a ≡ true → b ≡ true → (a && b) ≡ true
-both true b p q = q
-both false b p q = p
-
 -- what holds of a path other than `/`
 abbrev IsPlaced : Files → List ℕ → Type 0
 IsPlaced files q = (is_none (get files q) || (is_none (refusal q) && is_dir (get files (parent_of q)))) ≡ true
@@ -58,7 +49,7 @@ placed_new files p q n none fine above h =
     elim (eq_by_cmp path_cmp q p) as (λ b. eq_by_cmp path_cmp q p ≡ b → IsPlaced (insert files p n) q) [
       | true ↦ λ e. let is = same_path q p e in
           or_right (is_none (get (insert files p n) q)) _
-          (both (is_none (refusal q)) _ (ap is_none (ap refusal is ∙ fine))
+          (and_from (is_none (refusal q)) _ (ap is_none (ap refusal is ∙ fine))
           (keeps_dir files p (parent_of q) n (ap is_dir none) (ap (λ x. is_dir (get files (parent_of x))) is ∙ above)))
       | false ↦ λ e.
           ap (λ o. is_none o || (is_none (refusal q) && is_dir (get (insert files p n) (parent_of q)))) (elsewhere files p q n e)
@@ -163,10 +154,6 @@ some_of : {A : Type 0} (o : Option A) → is_none o ≡ false → is_some o ≡ 
 some_of None e = absurd (false≢true (sym e))
 some_of (Some x) e = refl
 
-pub both_parts : (a b : Bool) → (a && b) ≡ true → (a ≡ true) × (b ≡ true)
-both_parts true b e = (refl, e)
-both_parts false b e = absurd (false≢true e)
-
 placed_left : (files : Files) (p q : List ℕ) → IsBare files p → is_root q ≡ false → IsPlaced files q → IsPlaced (remove files p) q
 placed_left files p q bare off h =
     elim (eq_by_cmp path_cmp q p) as (λ b. eq_by_cmp path_cmp q p ≡ b → IsPlaced (remove files p) q) [
@@ -186,9 +173,9 @@ placed_left files p q bare off h =
     there : (b : Bool) → is_none (get files q) ≡ b → (is_none (get files q) || (is_none (refusal q) && is_dir (get (remove files p) (parent_of q)))) ≡ true
     there true e = ap (λ b. b || (is_none (refusal q) && is_dir (get (remove files p) (parent_of q)))) e
     there false e =
-        let parts = both_parts (is_none (refusal q)) (is_dir (get files (parent_of q)))
+        let parts = both (is_none (refusal q)) (is_dir (get files (parent_of q)))
         (ap (λ b. b || (is_none (refusal q) && is_dir (get files (parent_of q)))) (sym e) ∙ h) in
-        or_right (is_none (get files q)) _ (both (is_none (refusal q)) _ parts.0 (ap is_dir (off_here files p (parent_of q) (over e parts.0)) ∙ parts.1))
+        or_right (is_none (get files q)) _ (and_from (is_none (refusal q)) _ parts.0 (ap is_dir (off_here files p (parent_of q) (over e parts.0)) ∙ parts.1))
 
 root_off : (p q : List ℕ) → is_root p ≡ false → is_root q ≡ true → eq_by_cmp path_cmp q p ≡ false
 root_off p q off on =
@@ -219,7 +206,7 @@ bare_file files p h off q fine root here over =
         → is_dir (get files (parent_of q)) ≡ true
     dir_over true e o s c = absurd (false≢true (sym e))
     dir_over false e None s c = absurd (false≢true s)
-    dir_over false e (Some n) s c = (both_parts (is_none (refusal q)) (is_dir (get files (parent_of q))) c).1
+    dir_over false e (Some n) s c = (both (is_none (refusal q)) (is_dir (get files (parent_of q))) c).1
 
 pub no_dir : (o : Option Node) → remove_file_refusal o ≡ None → is_dir o ≡ false
 no_dir None e = refl

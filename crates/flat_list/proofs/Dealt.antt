@@ -9,6 +9,7 @@ use Rattle.std.proofs.lemmas.Bool.Decides.{nat_tests}
 use Rattle.path_text.specs.Path.{level_of}
 use Rattle.entry_pages.specs.declared.entries.Entry.{Entry}
 use Rattle.flat_list.specs.Orders.{level_count, places_from, places_at, dealt_from, dealt}
+use Rattle.whole_lines.proofs.Words.{eqb_same}
 
 pub count_more : (xs : List Entry) (e : Entry) → level_count (xs ++ e ∷ []) ≡ max (level_count xs) (level_of e.path + 1)
 count_more [] e = omega arith
@@ -133,9 +134,6 @@ dealt_more before n j (x ∷ xs) e =
     let rest = dealt_more (before + 1) n j xs e in
     let same : (before + 1) + length xs ≡ before + suc (length xs) = omega arith in
     rw (rest, same) (ahead (eqb (before % n) j) (eqb ((before + suc (length xs)) % n) j) x (dealt_from (before + 1) n j xs) e)
-
-eqb_same : (n : ℕ) → eqb n n ≡ true
-eqb_same n = grind (arith, nat_tests)
 
 eqb_apart : (m n : ℕ) → (m ≡ n → ⊥) → eqb m n ≡ false
 eqb_apart m n off = grind (arith, nat_tests)

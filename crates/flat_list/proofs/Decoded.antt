@@ -9,7 +9,7 @@ use Rattle.std.specs.declared.cmp.Ordering.{Ordering}
 use Rattle.std.specs.declared.cmp.Ordering.TheVariants.{Less, Equal, Greater}
 use Rattle.std.specs.Prelude.{slice_get, not, is_none, IfSome, ◌&&◌, ◌||◌, ◌==◌}
 use Rattle.std.specs.Option.{option_map}
-use Rattle.std.proofs.lemmas.Bool.{false≢true, and_parts}
+use Rattle.std.proofs.lemmas.Bool.{false≢true, and_parts, and_from}
 use Rattle.std.proofs.lemmas.List.{map-append, nil_from_length}
 use Rattle.path_text.specs.Order.{path_cmp}
 use Rattle.path_text.specs.Total.{path_cmp_total}
@@ -29,7 +29,7 @@ use Rattle.flat_list.specs.Private.Reading.{IsSettled}
 use Rattle.whole_lines.proofs.Words.{IsFree, cut_takes, pair_is}
 use Rattle.flat_list.proofs.Lines.{entry_takes, entry_again, target_takes, target_again}
 use Rattle.whole_lines.proofs.Ends.{end_takes, end_again}
-use Rattle.flat_list.proofs.Pieces.{Piece, own, target, piece_line, pieces_of, IsPiece, IsFile, IsLine, own_count, own_is, one_list, bare_more, and_both}
+use Rattle.flat_list.proofs.Pieces.{Piece, own, target, piece_line, pieces_of, IsPiece, IsFile, IsLine, own_count, own_is, one_list, bare_more}
 use Rattle.flat_list.proofs.Pieces.{TakesTarget, target_follows}
 use Rattle.whole_lines.proofs.Lines.{line_same, line_first, free_uncut, torn, no_lines, all_more}
 use Rattle.flat_list.proofs.Ascending.{sorted_none, sorted_one, sorted_last, sorted_more}
@@ -39,7 +39,7 @@ use Rattle.entry_pages.proofs.Inverse.{slice_end}
 
 -- ---- a path behind the others
 
-lt_is : (o : Ordering) → is_lt o ≡ true → o ≡ Less
+pub lt_is : (o : Ordering) → is_lt o ≡ true → o ≡ Less
 lt_is Less e = refl
 lt_is Equal e = absurd cc
 lt_is Greater e = absurd cc
@@ -244,13 +244,13 @@ bare_item v d behind is = record {
 shaped_with : (d : Entry) (t : List ℕ) → is_shaped d ≡ true → has_target d.mark d.stat ≡ true →
     is_shaped (let e : Entry = record d { target = Some t } in e) ≡ true
 shaped_with d t shape has =
-    and_both (has_target d.mark d.stat) (is_sized d.stat && shape_by d.mark d.stat (d.unnamed == 0 && d.far == 0)) has
+    and_from (has_target d.mark d.stat) (is_sized d.stat && shape_by d.mark d.stat (d.unnamed == 0 && d.far == 0)) has
     (and_parts (is_none d.target || has_target d.mark d.stat) (is_sized d.stat && shape_by d.mark d.stat (d.unnamed == 0 && d.far == 0)) shape).1
 
 known_with : (v : Version) (d : Entry) (t : List ℕ) → is_known v d ≡ true → is_new v ≡ true →
     is_known v (let e : Entry = record d { target = Some t } in e) ≡ true
 known_with v d t known new =
-    and_both (is_new v) (is_marked v d.mark d.stat) new (and_parts (is_none d.target || is_new v) (is_marked v d.mark d.stat) known).1
+    and_from (is_new v) (is_marked v d.mark d.stat) new (and_parts (is_none d.target || is_new v) (is_marked v d.mark d.stat) known).1
 
 item : Undoes → (v : Version) (d : Entry) (behind : List ℕ) (found : Option (List ℕ × List ℕ)) → IsLine v d → IfSome found (λ f. IsUtf8 f.0) →
     target_behind v d behind ≡ found → IsItem v d behind found

@@ -1,7 +1,7 @@
 -- The steps of writing a list file.
 use Rattle.std.proofs.Common.{◌≡◌, ℕ, ◌+◌, ◌<◌, ◌≤◌, ◌^◌, List, [], ◌∷◌, ◌++◌, length, take, ap, sym, ◌∙◌, subst}
-use Rattle.std.proofs.Common.{refl, append_assoc, arith}
-use Rattle.std.specs.Prelude.{codes, Bool, true, false, ◌&&◌, ◌||◌, is_none}
+use Rattle.std.proofs.Common.{append_assoc, arith}
+use Rattle.std.specs.Prelude.{codes, true, ◌&&◌, is_none}
 use Rattle.std.specs.Fmt.{decimal}
 use Rattle.std.specs.List.{AllByRecursion, flat_map}
 use Rattle.std.proofs.lemmas.Fmt.{decimal_digit}
@@ -18,6 +18,7 @@ use Rattle.flat_list.specs.declared.versions.Version.TheVariants.{Two}
 use Rattle.flat_list.proofs.Damage.{lines_more}
 use Rattle.whole_lines.proofs.Lines.{all_more, flat_end}
 use Rattle.flat_list.proofs.Dealt.{Turn, taken}
+use Rattle.outside.proofs.Leased.{or_true}
 
 -- what is written of so many entries: the header and their lines
 pub record Written (text : List ℕ) (es : List Entry) (i : ℕ) : Type 0 where
@@ -42,11 +43,6 @@ one_written {before} {after} {es} {i} {e} t w one is =
           ∙ ap joined (sym more);
       each = subst (AllByRecursion IsEntry) (sym more) (all_more IsEntry (take i es) e w.each is);
     }
-
--- version 2 tells every entry
-or_true : (b : Bool) → (b || true) ≡ true
-or_true true = refl
-or_true false = refl
 
 all_known : (es : List Entry) → AllByRecursion (IsKnown Two) es
 all_known [] = tt

@@ -10,7 +10,7 @@ use Rattle.std.specs.Prelude.{nat_eq, drop, ◌==◌, ◌||◌}
 use Rattle.std.specs.List.{starts_with}
 use Rattle.std.proofs.lemmas.Slice.Eq.{starts_is}
 use Rattle.std.proofs.lemmas.Str.{is_utf8-from_IsUtf8}
-use Rattle.std.proofs.lemmas.Bool.{false≢true, and_parts}
+use Rattle.std.proofs.lemmas.Bool.{false≢true, and_parts, and_from}
 use Rattle.std.proofs.lemmas.Bool.Decides.{nat_tests, Decides-eqb}
 use Rattle.path_text.specs.Escape.{escape, good_len, unescaped, ReadingUndoesWriting}
 use Rattle.whole_lines.proofs.Escapes.{utf8_escape, escape_free, free-append}
@@ -35,7 +35,7 @@ use Rattle.flat_list.specs.Private.Reading.{entry_at, link_ok, target_from, targ
 use Rattle.whole_lines.proofs.Words.{IsFree, bind_some, pair_is, word_takes, word_again}
 use Rattle.whole_lines.proofs.Numbers.{number_again, number_takes, decimal_free}
 use Rattle.whole_lines.proofs.Paths.{path_takes, path_again}
-use Rattle.flat_list.proofs.Pieces.{IsLine, bare_is, and_both}
+use Rattle.flat_list.proofs.Pieces.{IsLine, bare_is}
 
 -- ---- words
 
@@ -313,7 +313,7 @@ entry_takes undoes v text e is u =
 
 told_fits : (v : Version) (e : Entry) → IsLine v e →
     (is_marked v e.mark e.stat && (is_sized e.stat && shape_by e.mark e.stat (e.unnamed == 0 && e.far == 0))) ≡ true
-told_fits v e is = and_both (is_marked v e.mark e.stat) (is_sized e.stat && shape_by e.mark e.stat (e.unnamed == 0 && e.far == 0))
+told_fits v e is = and_from (is_marked v e.mark e.stat) (is_sized e.stat && shape_by e.mark e.stat (e.unnamed == 0 && e.far == 0))
     (and_parts (is_none e.target || is_new v) (is_marked v e.mark e.stat) is.known).1
     (and_parts (is_none e.target || has_target e.mark e.stat) (is_sized e.stat && shape_by e.mark e.stat (e.unnamed == 0 && e.far == 0)) is.entry.shape).1
 

@@ -1,11 +1,11 @@
 -- The lines of a list file one by one: each is an entry's own, or that of the target of the entry before it.
-use Rattle.std.proofs.Common.{◌≡◌, ℕ, ◌+◌, ◌≤◌, Bool, true, false, ◌&&◌, ◌||◌, List, [], ◌∷◌, ◌++◌, length, Option, Some}
+use Rattle.std.proofs.Common.{◌≡◌, ℕ, ◌+◌, ◌≤◌, true, ◌&&◌, ◌||◌, List, [], ◌∷◌, ◌++◌, length, Option, Some}
 use Rattle.std.proofs.Common.{None, refl, ap, sym, ◌∙◌}
 use Rattle.std.proofs.Common.{subst, arith, append_assoc, append-nil}
 use Rattle.std.specs.Prelude.{is_none, IfSome}
 use Rattle.std.specs.List.{AllByRecursion, flat_map}
 use Rattle.std.specs.List.Sorted.{IsStrictlySortedBy}
-use Rattle.std.proofs.lemmas.Bool.{and_parts}
+use Rattle.std.proofs.lemmas.Bool.{and_parts, and_from}
 use Rattle.std.proofs.lemmas.Grind.{flat_map-append}
 use Rattle.path_text.specs.Order.{path_cmp}
 use Rattle.entry_pages.specs.declared.entries.Entry.{Entry}
@@ -15,6 +15,7 @@ use Rattle.flat_list.specs.Spelling.{text_of, target_text, IsTarget, IsEntry, is
 use Rattle.whole_lines.specs.Lines.{line}
 use Rattle.flat_list.proofs.Ascending.{sorted_front}
 use Rattle.whole_lines.proofs.WholeLines.{cons_parts}
+use Rattle.std.proofs.lemmas.List.{same_from_push}
 
 pub data Piece : Type 0 where
   own : Entry → Piece
@@ -237,15 +238,6 @@ snoc_none : {A : Type 0} (xs : List A) (x : A) → xs ++ x ∷ [] ≡ [] → ⊥
 snoc_none [] x e = cc
 snoc_none (y ∷ xs) x e = cc
 
-pub snoc_parts : {A : Type 0} (xs ys : List A) (x y : A) → xs ++ x ∷ [] ≡ ys ++ y ∷ [] → (xs ≡ ys) × (x ≡ y)
-snoc_parts [] [] x y e = (refl, (cons_parts _ _ _ _ e).0)
-snoc_parts [] (b ∷ ys) x y e = absurd (snoc_none ys y (sym (cons_parts _ _ _ _ e).1))
-snoc_parts (a ∷ xs) [] x y e = absurd (snoc_none xs x (cons_parts _ _ _ _ e).1)
-snoc_parts (a ∷ xs) (b ∷ ys) x y e =
-    let parts = cons_parts _ _ _ _ e in
-    let rest = snoc_parts xs ys x y parts.1 in
-    ((λ i. parts.0 i ∷ rest.0 i), rest.1)
-
 -- entries are none, or have a last one
 pub data Ends (es : List Entry) : Type 0 where
   are_none : es ≡ [] → Ends es
@@ -266,11 +258,6 @@ pub record TakesTarget (v : Version) (es : List Entry) (t : List ℕ) : Type 0 w
   pub parts : es ≡ front ++ last ∷ []
   pub none : last.target ≡ None
   pub takes : (is_new v && has_target last.mark last.stat) ≡ true
-
-pub and_both : (a b : Bool) → a ≡ true → b ≡ true → (a && b) ≡ true
-and_both true true p q = refl
-and_both true false p q = q
-and_both false b p q = p
 
 last_entry : (v : Version) (front : List Entry) (e : Entry) → AllByRecursion IsEntry (front ++ e ∷ []) →
     AllByRecursion (IsKnown v) (front ++ e ∷ []) →
@@ -293,13 +280,13 @@ target_follows v es t f = by_end (ends f.entries)
         by_target None empty entry known same =
             let whole : pieces_of es ++ target t ∷ [] ≡ pieces_of front ++ own (bare e) ∷ [] =
             same ∙ (λ i. pieces_of front ++ own (bare e) ∷ target_pieces (empty i)) in
-            let differ : target t ≡ own (bare e) = (snoc_parts _ _ _ _ whole).1 in
+            let differ : target t ≡ own (bare e) = (same_from_push _ _ _ _ whole).1 in
             absurd cc
         by_target (Some u) full entry known same =
             let whole : pieces_of es ++ target t ∷ [] ≡ (pieces_of front ++ own (bare e) ∷ []) ++ target u ∷ [] =
             same ∙ (λ i. pieces_of front ++ own (bare e) ∷ target_pieces (full i))
             ∙ sym (append_assoc (pieces_of front) (own (bare e) ∷ []) (target u ∷ [])) in
-            let parts = snoc_parts (pieces_of es) (pieces_of front ++ own (bare e) ∷ []) (target t) (target u) whole in
+            let parts = same_from_push (pieces_of es) (pieces_of front ++ own (bare e) ∷ []) (target t) (target u) whole in
             let told : (is_none (Some u) || has_target e.mark e.stat) ≡ true =
             subst (λ o. (is_none o || has_target e.mark e.stat) ≡ true) full (and_parts _ _ entry.shape).0 in
             let new : (is_none (Some u) || is_new v) ≡ true = subst (λ o. (is_none o || is_new v) ≡ true) full (and_parts _ _ known).0 in
@@ -308,5 +295,5 @@ target_follows v es t f = by_end (ends f.entries)
               last = bare e;
               parts = one_list es (front ++ bare e ∷ []) (parts.0 ∙ sym (bare_more front (bare e) refl));
               none = refl;
-              takes = and_both (is_new v) (has_target e.mark e.stat) new told;
+              takes = and_from (is_new v) (has_target e.mark e.stat) new told;
             }

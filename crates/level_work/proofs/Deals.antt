@@ -25,9 +25,11 @@ use Rattle.level_work.specs.declared.items.Order.TheVariants as order
 use Rattle.level_work.specs.declared.lots.Lot.{Lot}
 use Rattle.level_work.proofs.Crewed.{map_get}
 use Rattle.level_work.proofs.Giving.{get_set_same, get_set_other, get_front, length_set, map_set, split_take_suc}
-use Rattle.level_work.proofs.Leases.{Written, written_here, written_there, written, same_number, other_number, is_less, not_less}
+use Rattle.level_work.proofs.Leases.{Written, written_here, written_there, written, other_number, not_less}
 use Rattle.level_work.proofs.Working.{same_some, get_more}
 use Rattle.entry_pages.proofs.Inverse.{slice_end}
+use Rattle.std.proofs.lemmas.Map.Views.{exact_unsigned_eq}
+use Rattle.path_text.proofs.Preordered.{longer}
 
 pub failed_parent : (items : List Item) (fates : List Fate) (paths : List (List ℕ)) (x : Item) → AreFailed items fates paths
     → has_path paths (parent_of x.path) ≡ true → HasFailedParent items fates x
@@ -47,7 +49,7 @@ one_over nested x y q fx fy lev on on' = ⊎_elim (same x y fy lev) (λ w. sym (
     same : (a b : List ℕ) → refusal b ≡ None → level_of a ≡ level_of b → is_within a b ≡ true → a ≡ b
     same a b f l w = ⊎_elim (λ e. e) (λ u. absurd (let d = under_deeper a b (some_bytes b f) u in omega (arith, d, l))) (same_or_under a b w)
 
-widen : (n : ℕ) (places : List ℕ) (k : ℕ) → IsAmong n places k → IsAmong (n + 1) places k
+pub widen : (n : ℕ) (places : List ℕ) (k : ℕ) → IsAmong n places k → IsAmong (n + 1) places k
 widen n places k a = record { place = a.place; at = a.at; early = omega (arith, a.early) }
 
 module _ {A P : Type 0} where
@@ -98,7 +100,7 @@ module _ {A P : Type 0} where
 
     still : (m : ℕ) → Dealt lots m → Dealt (slice_set lots i new) m
     still m e = elim (eqb e.share i) as (λ b. eqb e.share i ≡ b → Dealt (slice_set lots i new) m) [
-      | true ↦ λ is. let s = same_number e.share i is in let same : e.lot ≡ lot = same_some e.lot lot (sym e.is_lot ∙ ap (slice_get lots) s ∙ at) in
+      | true ↦ λ is. let s = exact_unsigned_eq e.share i is in let same : e.lot ≡ lot = same_some e.lot lot (sym e.is_lot ∙ ap (slice_get lots) s ∙ at) in
           record {
             share = i;
             place = e.place;
@@ -135,14 +137,14 @@ module _ {A P : Type 0} where
       once = λ j t s u m e f. once j t s u m (taken j t m e) (taken s u m f);
       all = λ t m x l is it. all t m x is it
           (elim (eqb t n) as (λ b. eqb t n ≡ b → (t ≡ n) ⊎ (t < n)) [
-            | true ↦ λ e. inl (same_number t n e)
+            | true ↦ λ e. inl (exact_unsigned_eq t n e)
             | false ↦ λ e. inr (early t l (other_number t n e))
           ] refl);
     }
       where
         early : (t : ℕ) → t < n + 1 → (t ≡ n → ⊥) → t < n
         early t l off = elim (nat_lt t n) as (λ b. nat_lt t n ≡ b → t < n) [
-          | true ↦ λ e. is_less t n e
+          | true ↦ λ e. longer t n e
           | false ↦ λ e. absurd (off (let m = not_less t n e in omega (arith, l, m)))
         ] refl
 
@@ -178,7 +180,7 @@ module _ {A P : Type 0} where
     can = d.can;
     once = d.once;
     all = λ t m x l is it. elim (nat_lt t n) as (λ b. nat_lt t n ≡ b → FailsWith o items fates x ⊎ Dealt lots m) [
-      | true ↦ λ e. d.all t m x (is_less t n e) is it
+      | true ↦ λ e. d.all t m x (longer t n e) is it
       | false ↦ λ e. inl (fails x (ap (slice_get items) (same_some k m (sym next ∙ ap (slice_get places) (last t l (not_less t n e)) ∙ is)) ∙ it))
     ] refl;
   }
@@ -299,7 +301,7 @@ one_place_more f n level items x levels v v' at lev has more w l places e = by (
       once = λ i j k e' h. case_once i j k (get_more (f v) n i k e') (get_more (f v) n j k h);
       all = λ k y less is le. case_all k y is le
           (elim (eqb k n) as (λ b. eqb k n ≡ b → (k ≡ n) ⊎ (k < n)) [
-            | true ↦ λ s. inl (same_number k n s)
+            | true ↦ λ s. inl (exact_unsigned_eq k n s)
             | false ↦ λ s. inr (smaller k less (other_number k n s))
           ] refl);
       many = length_push (f v) n ∙ ap (λ m. m + 1) d.many ∙ sym (counted_on level items n x at (sym lev));
@@ -311,7 +313,7 @@ one_place_more f n level items x levels v v' at lev has more w l places e = by (
 
         smaller : (k : ℕ) → k < n + 1 → (k ≡ n → ⊥) → k < n
         smaller k less off = elim (nat_lt k n) as (λ b. nat_lt k n ≡ b → k < n) [
-          | true ↦ λ s. is_less k n s
+          | true ↦ λ s. longer k n s
           | false ↦ λ s. absurd (off (let m = not_less k n s in omega (arith, less, m)))
         ] refl
 
@@ -353,7 +355,7 @@ one_place_more f n level items x levels v v' at lev has more w l places e = by (
           below = λ j k e'. let b = d.below j k e' in omega (arith, b);
           once = d.once;
           all = λ k y less is le. elim (nat_lt k n) as (λ b. nat_lt k n ≡ b → IsAmong (length places) places k) [
-            | true ↦ λ s. d.all k y (is_less k n s) is le
+            | true ↦ λ s. d.all k y (longer k n s) is le
             | false ↦ λ s. absurd (off (sym le ∙ ap (λ (z : Item). level_of z.path) (item k y (let q = not_less k n s in omega (arith, q, less)) is) ∙ sym lev))
           ] refl;
           many = d.many ∙ sym (counted_off l items n x at (λ s. off (sym s ∙ sym lev)));
@@ -385,7 +387,7 @@ all_empty i now new l here_empty before j lot less e = by (written now i new j l
     by (written_there off is) =
         before j lot (elim (nat_lt j i) as
         (λ b. nat_lt j i ≡ b → j < i) [
-          | true ↦ λ s. is_less j i s
+          | true ↦ λ s. longer j i s
           | false ↦ λ s. absurd (off (let q = not_less j i s in omega (arith, q, less)))
         ] refl) is
 

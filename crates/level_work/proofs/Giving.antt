@@ -32,7 +32,7 @@ split_take_suc (y ∷ xs) (suc i) x e = ap (λ r. y ∷ r) (split_take_suc xs i 
 pub split_take : {X : Type 0} (xs : List X) (i : ℕ) (x : X) → slice_get xs i ≡ Some x → take (i + 1) xs ≡ take i xs ++ x ∷ []
 split_take xs i x e = ap (λ k. take k xs) (more i) ∙ split_take_suc xs i x e
 
-split_drop_suc : {X : Type 0} (xs : List X) (i : ℕ) (x : X) → slice_get xs i ≡ Some x → drop i xs ≡ x ∷ drop (suc i) xs
+pub split_drop_suc : {X : Type 0} (xs : List X) (i : ℕ) (x : X) → slice_get xs i ≡ Some x → drop i xs ≡ x ∷ drop (suc i) xs
 split_drop_suc [] i x e = cc
 split_drop_suc (y ∷ xs) zero x e = ap (λ z. z ∷ xs) (same_some y x e)
 split_drop_suc (y ∷ xs) (suc i) x e = split_drop_suc xs i x e

@@ -31,6 +31,8 @@ use Rattle.level_work.proofs.Homes.{none_out, none_counted, all_left}
 use Rattle.level_work.proofs.Lent.{item_of, can_lease, is_ready}
 use Rattle.level_work.proofs.Likes.{likes, likes_back, shares_over, same_place}
 use Rattle.level_work.proofs.Working.{same_some, item_at}
+use Rattle.std.proofs.lemmas.Map.Views.{exact_unsigned_eq}
+use Rattle.path_text.proofs.Preordered.{longer}
 
 all_of : {X : Type 0} (f : X → Bool) (xs : List X) → ((i : ℕ) (x : X) → slice_get xs i ≡ Some x → f x ≡ true) → list_all f xs ≡ true
 all_of f [] h = refl
@@ -43,14 +45,8 @@ all_both f (x ∷ xs) ys h k = elim (f x) as (λ b. f x ≡ b → (b && list_all
   | false ↦ λ _ h. h
 ] refl h
 
-pub same_number : (j n : ℕ) → eqb j n ≡ true → j ≡ n
-same_number j n e = grind (arith, nat_tests)
-
 pub other_number : (j n : ℕ) → eqb j n ≡ false → j ≡ n → ⊥
 other_number j n e s = absurd (false≢true (grind (arith, nat_tests)))
-
-pub is_less : (j n : ℕ) → nat_lt j n ≡ true → j < n
-is_less j n e = grind (arith, nat_tests)
 
 pub not_less : (j n : ℕ) → nat_lt j n ≡ false → n ≤ j
 not_less j n e = grind (arith, nat_tests)
@@ -62,7 +58,7 @@ pub data Written {X : Type 0} (xs : List X) (i : ℕ) (new : X) (j : ℕ) (x : X
 
 pub written : {X : Type 0} (xs : List X) (i : ℕ) (new : X) (j : ℕ) (x : X) → i < length xs → slice_get (slice_set xs i new) j ≡ Some x → Written xs i new j x
 written xs i new j x l e = elim (eqb j i) as (λ b. eqb j i ≡ b → Written xs i new j x) [
-  | true ↦ λ is. let s = same_number j i is in
+  | true ↦ λ is. let s = exact_unsigned_eq j i is in
       written_here s (same_some new x (sym (get_set_same xs i new l) ∙ ap (slice_get (slice_set xs i new)) (sym s) ∙ e))
   | false ↦ λ off. let n = other_number j i off in written_there n (sym (get_set_other xs i j new n) ∙ e)
 ] refl
@@ -145,7 +141,7 @@ module _ {A P : Type 0} (tree : P → Option Files) (area : P → Area) (count :
 
     owner : (j : ℕ) (one : Lot A P) (q : List ℕ) → slice_get now j ≡ Some one → in_tops (tops_of (part_area area one.part)) q ≡ true → Owner j one q
     owner j one q at on = elim (nat_lt j i) as (λ b. nat_lt j i ≡ b → Owner j one q) [
-      | true ↦ λ less. by (is_less j i less)
+      | true ↦ λ less. by (longer j i less)
       | false ↦ λ more. absurd (false≢true (sym (not_out j one q (not_less j i more) at) ∙ on))
     ] refl
       where
@@ -192,7 +188,7 @@ module _ {A P : Type 0} (tree : P → Option Files) (area : P → Area) (count :
     apart_from : (k : ℕ) (one : Lot A P) (x : Item) → slice_get now i ≡ Some one → IsAt items one.places.items k x → (j : ℕ) (his : Lot A P)
         → slice_get now j ≡ Some his → list_all (is_apart x.path) (tops_in (part_area area his.part)) ≡ true
     apart_from k one x at b j his at' = elim (nat_lt j i) as (λ c. nat_lt j i ≡ c → list_all (is_apart x.path) (tops_in (part_area area his.part)) ≡ true) [
-      | true ↦ λ less. by (is_less j i less)
+      | true ↦ λ less. by (longer j i less)
       | false ↦ λ more. ap (λ p. list_all (is_apart x.path) (tops_in (part_area area p))) (later j his (not_less j i more) at')
     ] refl
       where
@@ -260,7 +256,7 @@ module _ {A P : Type 0} (tree : P → Option Files) (area : P → Area) (count :
 
         earlier : (j : ℕ) → j < i + 1 → (j ≡ i → ⊥) → j < i
         earlier j l n = elim (nat_lt j i) as (λ b. nat_lt j i ≡ b → j < i) [
-          | true ↦ λ e. is_less j i e
+          | true ↦ λ e. longer j i e
           | false ↦ λ e. absurd (n (let m = not_less j i e in omega (arith, l, m)))
         ] refl
 
@@ -302,7 +298,7 @@ module _ {A P : Type 0} (tree : P → Option Files) (area : P → Area) (count :
           where
             none_before : (q : List ℕ) → InNone (part_area area) (slice_set now i new) q → InNone (part_area area) now q
             none_before q off j one e' = elim (eqb j i) as (λ c. eqb j i ≡ c → in_tops (tops_of (part_area area one.part)) q ≡ false) [
-              | true ↦ λ s. not_out j one q (let n = same_number j i s in omega (arith, n)) e'
+              | true ↦ λ s. not_out j one q (let n = exact_unsigned_eq j i s in omega (arith, n)) e'
               | false ↦ λ n. off j one (get_set_other now i j new (other_number j i n) ∙ e')
             ] refl
 
@@ -350,7 +346,7 @@ module _ {A P : Type 0} (tree : P → Option Files) (area : P → Area) (count :
 
     pub all_under : AreUnder (part_area area) now
     all_under j one p at is = elim (nat_lt j i) as (λ b. nat_lt j i ≡ b → part_area area one.part ≡ under (tops_of (part_area area one.part))) [
-      | true ↦ λ less. v.leased j one (is_less j i less) at
+      | true ↦ λ less. v.leased j one (longer j i less) at
       | false ↦ λ more. absurd (clash one.part p (later j one (not_less j i more) at) is)
     ] refl
       where

@@ -20,6 +20,7 @@ use Rattle.level_work.specs.declared.lots.Lot.{Lot}
 use Rattle.path_text.proofs.Within.{itself}
 use Rattle.level_work.proofs.Working.{item_at, same_some}
 use Rattle.entry_pages.proofs.Inverse.{slice_end}
+use Rattle.outside.proofs.Saved.{at_itself}
 
 get_front : {X : Type 0} (xs : List X) (y : X) (j : ℕ) → j < length xs → slice_get (xs ++ y ∷ []) j ≡ slice_get xs j
 get_front [] y j l = absurd (omega arith)
@@ -101,9 +102,6 @@ module _ (items : List Item) (places : List ℕ) (tops : List (List ℕ)) (s : I
     apart = subst (AreApart items) (sym same) s.apart;
   }
 
-same_self : (xs : List ℕ) → pointwise nat_eq xs xs ≡ true
-same_self xs = (bytes_decides xs xs).1 refl
-
 pub same_tops_self : (tops : List (List ℕ)) → same_tops tops tops ≡ true
 same_tops_self [] = refl
-same_tops_self (x ∷ tops) = ap (λ b. b && same_tops tops tops) (same_self x) ∙ same_tops_self tops
+same_tops_self (x ∷ tops) = ap (λ b. b && same_tops tops tops) (at_itself x) ∙ same_tops_self tops

@@ -19,9 +19,11 @@ use Rattle.level_work.specs.declared.items.Order.TheVariants as order
 use Rattle.level_work.proofs.Frames.{same_at}
 use Rattle.path_text.proofs.Levels.{deeper, as_deep}
 use Rattle.path_text.proofs.Within.{some_bytes}
-use Rattle.level_work.proofs.Stages.{Next, with_here, other_level, lt_true, le_true, true_le, done_after, not_here, still_done, now_done}
+use Rattle.level_work.proofs.Stages.{Next, with_here, other_level, le_true, true_le, done_after, not_here, still_done, now_done}
 use Rattle.level_work.proofs.Running.{next_at, not_yet, at_last, is_no_item, no_item, standing}
 use Rattle.level_work.proofs.Working.{same_some}
+use Rattle.path_text.proofs.Preordered.{longer}
+use Rattle.outside.proofs.Leased.{or_true}
 
 get_stage : (o : Order) (t : ℕ) (items : List Item) (before after : Files) (q : List ℕ)
     → get (stage o t items before after) q ≡ cond (is_done_path o t items q) (get after q) (get before q)
@@ -41,10 +43,6 @@ get_stage o t items before after q =
     by true None r = refl
     by true (Some n) r = refl
     by false m r = refl
-
-or_true : (b : Bool) → (b || true) ≡ true
-or_true true = refl
-or_true false = refl
 
 -- an item's path is done where its level is
 its_path : (o : Order) (t : ℕ) (items : List Item) (k : ℕ) (x : Item) → slice_get items k ≡ Some x → is_level_done o t (level_of x.path) ≡ true
@@ -156,7 +154,7 @@ module _ (deed : Deed) (items : List Item) (fates : List Fate) (before after : F
           let was : at_and_under x.path (stage order.TopDown t items before after) ≡ at_and_under x.path before =
           same_at x.path before _ (λ q on.
           at_none order.TopDown t q
-          (not_done order.TopDown t q (λ d. let a = as_deep q x.path some on in let b = lt_true (level_of q) t d in
+          (not_done order.TopDown t q (λ d. let a = as_deep q x.path some on in let b = longer (level_of q) t d in
           omega (arith, a, b, lev, n.0)))) in
           let here : get (stage order.TopDown t' items before after) x.path ≡ get after x.path =
           at_done order.TopDown t' x.path
@@ -166,7 +164,7 @@ module _ (deed : Deed) (items : List Item) (fates : List Fate) (before after : F
           ≡ at_and_under x.path (stage order.TopDown t' items before after) =
           with_here x.path before _
           (λ q on off. at_none order.TopDown t' q
-          (not_done order.TopDown t' q (λ d. let a = deeper q x.path some on off in let b = lt_true (level_of q) t' d in
+          (not_done order.TopDown t' q (λ d. let a = deeper q x.path some on off in let b = longer (level_of q) t' d in
           omega (arith, a, b, lev, n.0, n.1)))) in
           subst (λ m. deed x.path x.entry f m (at_and_under x.path (stage order.TopDown t' items before after))) (sym was)
           (subst (deed x.path x.entry f (at_and_under x.path before))

@@ -21,8 +21,10 @@ use Rattle.level_work.specs.declared.items.Order.TheVariants as order
 use Rattle.level_work.proofs.Frames.{get_here}
 use Rattle.path_text.proofs.Levels.{parent_above}
 use Rattle.path_text.proofs.Within.{some_bytes}
-use Rattle.level_work.proofs.Stages.{Next, get_with, other_level, lt_true, le_true, true_lt, true_le, done_after, not_here, level_more}
+use Rattle.level_work.proofs.Stages.{Next, get_with, other_level, le_true, true_le, done_after, not_here, level_more}
 use Rattle.level_work.proofs.Working.{some_at, same_some, both_told, same_told}
+use Rattle.path_text.proofs.Under.{less}
+use Rattle.path_text.proofs.Preordered.{longer}
 
 pub is_no_item : (items : List Item) (q : List ℕ) (k : ℕ) (x : Item) → is_item items q ≡ false → slice_get items k ≡ Some x → pointwise nat_eq q x.path ≡ false
 is_no_item [] q k x off at = cc
@@ -56,7 +58,7 @@ not_yet order.TopDown top m l = grind (arith, nat_tests)
 not_yet order.BottomUp top m l = let e : top - 0 ≡ top = omega arith in ap (λ t. nat_le t m) e ∙ grind (arith, nat_tests)
 
 pub at_last : (o : Order) (top m : ℕ) → m < top → is_level_done o (mark_at o top top) m ≡ true
-at_last order.TopDown top m l = true_lt m top l
+at_last order.TopDown top m l = less m top l
 at_last order.BottomUp top m l = true_le (top - top) m (omega arith)
 
 none_done : (deed : Deed) (o : Order) (top : ℕ) (items : List Item) (fates : List Fate) (files : Files) → AllBelow top items
@@ -145,7 +147,7 @@ module _ (deed : Deed) (items : List Item) (fates : List Fate) (ok : AreItems it
           g = some_at fates p.place (omega (arith, len, slice_get_within items p.place p.item p.at))
 
           below : is_level_done order.TopDown t (level_of p.item.path) ≡ true
-          below = true_lt (level_of p.item.path) t (let a = parent_above x.path (ok.valid k x at) (ok.no_root k x at) in
+          below = less (level_of p.item.path) t (let a = parent_above x.path (ok.valid k x at) (ok.no_root k x at) in
               omega (arith, a, lev, n.0, ap level_of p.is))
 
           done : (g.0 ≡ fate.Done) ⊎ (g.0 ≢ fate.Done) → is_dir (get now (parent_of x.path)) ≡ true
@@ -195,7 +197,7 @@ ran_more deed o top turn items old new was now next l ok t one tells r = record 
         (m ≤ level_at o top turn) ⊎ (o ≡ order.BottomUp)
     no_deeper order.BottomUp m h = inr refl
     no_deeper order.TopDown m (inl e) = inl (omega (arith, e))
-    no_deeper order.TopDown m (inr d) = inl (let k = lt_true m turn d in omega (arith, k))
+    no_deeper order.TopDown m (inr d) = inl (let k = longer m turn d in omega (arith, k))
 
     told : (k : ℕ) (x : Item) (f : Fate) → slice_get items k ≡ Some x → slice_get new k ≡ Some f → (level_of x.path ≡ level_at o top turn)
         ⊎ (is_level_done o (mark_at o top turn) (level_of x.path) ≡ true) → (f ≡ fate.ParentFailed) ↔ FailsWith o items new x

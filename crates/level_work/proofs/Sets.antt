@@ -8,7 +8,7 @@ use Rattle.path_text.specs.Total.{path_cmp_ties}
 use Rattle.level_work.specs.Private.Dealing.{has_path}
 
 -- two lists of bytes are compared as well the other way round
-turn : (q p : List ℕ) → pointwise nat_eq q p ≡ pointwise nat_eq p q
+pub turn : (q p : List ℕ) → pointwise nat_eq q p ≡ pointwise nat_eq p q
 turn q p = by (pointwise nat_eq q p) (pointwise nat_eq p q) refl refl
   where
     by : (a b : Bool) → pointwise nat_eq q p ≡ a → pointwise nat_eq p q ≡ b → pointwise nat_eq q p ≡ pointwise nat_eq p q

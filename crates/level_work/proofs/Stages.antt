@@ -3,11 +3,10 @@ use Rattle.std.proofs.Common.{◌≡◌, ◌⊎◌, inl, inr, ℕ, ◌+◌, ◌<
 use Rattle.std.proofs.Common.{arith, nat_eq, nat_lt, nat_le, slice_get}
 use Rattle.std.proofs.lemmas.Bool.Decides.{nat_tests}
 use Rattle.std.specs.FinMap.{get, get-insert, get-remove, same_map}
-use Rattle.std.specs.Ordering.{eq_by_cmp}
 use Rattle.std.specs.Cmp.Lexicographic.{pointwise, bytes_decides}
-use Rattle.path_text.specs.Order.{path_cmp, is_within}
+use Rattle.path_text.specs.Order.{is_within}
 use Rattle.path_text.specs.Path.{level_of}
-use Rattle.path_text.specs.Total.{path_cmp_total, path_cmp_ties, path_cmp_same}
+use Rattle.path_text.specs.Total.{path_cmp_total, path_cmp_same}
 use Rattle.outside.specs.Tree.{Files, Node}
 use Rattle.level_work.specs.Acts.{Deed, at_and_under}
 use Rattle.level_work.specs.Levels.{with_at, HasFate}
@@ -20,9 +19,9 @@ use Rattle.level_work.specs.declared.items.Order.TheVariants as order
 use Rattle.level_work.proofs.Frames.{get_at, same_at}
 use Rattle.path_text.proofs.Levels.{deeper, as_deep}
 use Rattle.path_text.proofs.Within.{itself}
-
-tie : (q p : List ℕ) → eq_by_cmp path_cmp q p ≡ pointwise nat_eq q p
-tie q p = sym (path_cmp_ties q p)
+use Rattle.path_text.proofs.Under.{less}
+use Rattle.path_text.proofs.Preordered.{longer}
+use Rattle.outside.proofs.Saved.{tie}
 
 pub get_with : (p : List ℕ) (o : Option Node) (files : Files) (q : List ℕ) → get (with_at p o files) q ≡ cond (pointwise nat_eq q p) o (get files q)
 get_with p None files q = get-remove path_cmp_total files p q ∙ ap (λ b. cond b None (get files q)) (tie q p)
@@ -55,14 +54,8 @@ abbrev pub Next : Order → ℕ → ℕ → ℕ → Type 0
 Next order.TopDown t l t' = (l ≡ t) × (t' ≡ t + 1)
 Next order.BottomUp t l t' = (t ≡ l + 1) × (t' ≡ l)
 
-pub lt_true : (a b : ℕ) → nat_lt a b ≡ true → a < b
-lt_true a b e = grind (arith, nat_tests)
-
 pub le_true : (a b : ℕ) → nat_le a b ≡ true → a ≤ b
 le_true a b e = grind (arith, nat_tests)
-
-pub true_lt : (a b : ℕ) → a < b → nat_lt a b ≡ true
-true_lt a b e = grind (arith, nat_tests)
 
 pub true_le : (a b : ℕ) → a ≤ b → nat_le a b ≡ true
 true_le a b e = grind (arith, nat_tests)
@@ -70,7 +63,7 @@ true_le a b e = grind (arith, nat_tests)
 pub done_after : (o : Order) (t l t' m : ℕ) → Next o t l t' → is_level_done o t' m ≡ true → (m ≡ l) ⊎ (is_level_done o t m ≡ true)
 done_after order.TopDown t l t' m n e = elim (nat_lt m t) as (λ c. nat_lt m t ≡ c → (m ≡ l) ⊎ (nat_lt m t ≡ true)) [
   | true ↦ λ is. inr is
-  | false ↦ λ is. inl (let k = lt_true m t' e in grind (arith, nat_tests))
+  | false ↦ λ is. inl (let k = longer m t' e in grind (arith, nat_tests))
 ] refl
 done_after order.BottomUp t l t' m n e = elim (nat_le t m) as (λ c. nat_le t m ≡ c → (m ≡ l) ⊎ (nat_le t m ≡ true)) [
   | true ↦ λ is. inr is
@@ -79,15 +72,15 @@ done_after order.BottomUp t l t' m n e = elim (nat_le t m) as (λ c. nat_le t m 
 
 -- no item of the next level is done
 pub not_here : (o : Order) (t l t' m : ℕ) → Next o t l t' → is_level_done o t m ≡ true → m ≡ l → ⊥
-not_here order.TopDown t l t' m n e s = let k = lt_true m t e in omega (arith, n.0, s, k)
+not_here order.TopDown t l t' m n e s = let k = longer m t e in omega (arith, n.0, s, k)
 not_here order.BottomUp t l t' m n e s = let k = le_true t m e in omega (arith, n.0, s, k)
 
 pub still_done : (o : Order) (t l t' m : ℕ) → Next o t l t' → is_level_done o t m ≡ true → is_level_done o t' m ≡ true
-still_done order.TopDown t l t' m n e = let k = lt_true m t e in true_lt m t' (omega (arith, k, n.1))
+still_done order.TopDown t l t' m n e = let k = longer m t e in less m t' (omega (arith, k, n.1))
 still_done order.BottomUp t l t' m n e = let k = le_true t m e in true_le t' m (omega (arith, k, n.0, n.1))
 
 pub now_done : (o : Order) (t l t' : ℕ) → Next o t l t' → is_level_done o t' l ≡ true
-now_done order.TopDown t l t' n = true_lt l t' (omega (arith, n.0, n.1))
+now_done order.TopDown t l t' n = less l t' (omega (arith, n.0, n.1))
 now_done order.BottomUp t l t' n = true_le t' l (omega (arith, n.1))
 
 module _ (deed : Deed) (items : List Item) (fates : List Fate) (before now next : Files) where
@@ -124,7 +117,7 @@ module _ (deed : Deed) (items : List Item) (fates : List Fate) (before now next 
   new_fate order.TopDown t l t' k x f n some pending one at has lev =
       let fresh : (q : List ℕ) → is_within q x.path ≡ true → get now q ≡ get before q =
       λ q on. pending q (λ j y is done. other_level q y.path (λ s. let d = as_deep q x.path some on in
-      let e = lt_true (level_of y.path) t done in omega (arith, d, e, s, lev, n.0))) in
+      let e = longer (level_of y.path) t done in omega (arith, d, e, s, lev, n.0))) in
       let was : at_and_under x.path now ≡ at_and_under x.path before = same_at x.path before now fresh in
       let is : with_at x.path (get next x.path) (at_and_under x.path before) ≡ at_and_under x.path next =
       with_here x.path before next

@@ -12,7 +12,7 @@ use Rattle.path_text.proofs.Within.{itself}
 use Rattle.level_work.specs.Counts.{is_failed}
 use Rattle.level_work.specs.Private.Steps.{TellsLevel}
 use Rattle.level_work.specs.Private.Crews.{AreShares, Stored}
-use Rattle.level_work.specs.Private.Dealing.{IsAmong, AreOnLevel, FailedAt, IsFresh, Knows, has_path, In}
+use Rattle.level_work.specs.Private.Dealing.{AreOnLevel, FailedAt, IsFresh, Knows, has_path, In}
 use Rattle.level_work.specs.Private.Storing.{IsLeftOut, IsStored, AreStored, IsNoted, Notes}
 use Rattle.level_work.specs.declared.items.Item.{Item}
 use Rattle.level_work.specs.declared.items.Fate.{Fate}
@@ -21,8 +21,11 @@ use Rattle.level_work.specs.declared.items.Order.{Order}
 use Rattle.level_work.specs.declared.items.Order.TheVariants as order
 use Rattle.level_work.specs.declared.lots.Lot.{Lot}
 use Rattle.level_work.proofs.Giving.{get_set_same, get_set_other, length_set, split_take, take_all}
-use Rattle.level_work.proofs.Leases.{same_number, other_number, is_less, not_less}
+use Rattle.level_work.proofs.Leases.{other_number, not_less}
 use Rattle.level_work.proofs.Working.{same_some, count_more}
+use Rattle.std.proofs.lemmas.Map.Views.{exact_unsigned_eq}
+use Rattle.path_text.proofs.Preordered.{longer}
+use Rattle.level_work.proofs.Deals.{widen}
 
 count_set : (xs : List Fate) (k : ℕ) (f : Fate) → count_by is_failed (slice_set xs k f) ≤ count_by is_failed xs + cond (is_failed f) 1 0
 count_set [] k f = omega arith
@@ -33,18 +36,15 @@ count_set (x ∷ xs) (suc k) f = let r = count_set xs k f in
 -- a number up to n is n or is less
 pub up_to : (t n : ℕ) → t < n + 1 → (t ≡ n) ⊎ (t < n)
 up_to t n l = elim (eqb t n) as (λ b. eqb t n ≡ b → (t ≡ n) ⊎ (t < n)) [
-  | true ↦ λ e. inl (same_number t n e)
+  | true ↦ λ e. inl (exact_unsigned_eq t n e)
   | false ↦ λ e. inr (early (other_number t n e))
 ] refl
   where
     early : (t ≡ n → ⊥) → t < n
     early off = elim (nat_lt t n) as (λ b. nat_lt t n ≡ b → t < n) [
-      | true ↦ λ e. is_less t n e
+      | true ↦ λ e. longer t n e
       | false ↦ λ e. absurd (off (let m = not_less t n e in omega (arith, l, m)))
     ] refl
-
-wider : (n : ℕ) (places : List ℕ) (k : ℕ) → IsAmong n places k → IsAmong (n + 1) places k
-wider n places k a = record { place = a.place; at = a.at; early = omega (arith, a.early) }
 
 pub none_left_out : (places : List ℕ) (fates : List Fate) → IsLeftOut 0 places fates fates
 none_left_out places fates = record { len = refl; others = λ k off. refl; each = λ j k l at. absurd (omega (arith, l)); most = omega arith }
@@ -54,9 +54,9 @@ pub left_out_more : (n k : ℕ) (places : List ℕ) (old mid : List Fate) → sl
 left_out_more n k places old mid at inside w = record {
   len = length_set mid k fate.ParentFailed ∙ w.len;
   others = λ m off. get_set_other mid k m fate.ParentFailed
-      (λ e. off (record { place = n; at = at ∙ ap Some (sym e); early = omega arith })) ∙ w.others m (λ a. off (wider n places m a));
+      (λ e. off (record { place = n; at = at ∙ ap Some (sym e); early = omega arith })) ∙ w.others m (λ a. off (widen n places m a));
   each = λ j m l at'. elim (eqb m k) as (λ b. eqb m k ≡ b → slice_get (slice_set mid k fate.ParentFailed) m ≡ Some fate.ParentFailed) [
-    | true ↦ λ e. ap (slice_get (slice_set mid k fate.ParentFailed)) (same_number m k e) ∙ get_set_same mid k fate.ParentFailed inside
+    | true ↦ λ e. ap (slice_get (slice_set mid k fate.ParentFailed)) (exact_unsigned_eq m k e) ∙ get_set_same mid k fate.ParentFailed inside
     | false ↦ λ e. get_set_other mid k m fate.ParentFailed (other_number m k e) ∙ w.each j m (earlier j m l at' (other_number m k e)) at'
   ] refl;
   most = omega (arith, count_set mid k fate.ParentFailed, w.most);
@@ -79,7 +79,7 @@ pub stored_more : (n k : ℕ) (f : Fate) (places : List ℕ) (told old mid : Lis
 stored_more n k f places told old mid at is inside once w = record {
   len = length_set mid k f ∙ w.len;
   others = λ m off. get_set_other mid k m f (λ e. off (record { place = n; at = at ∙ ap Some (sym e); early = omega arith }))
-      ∙ w.others m (λ a. off (wider n places m a));
+      ∙ w.others m (λ a. off (widen n places m a));
   each = λ j m l at'. by j m at' (up_to j n l);
   most = omega (arith, count_set mid k f, w.most, ap (count_by is_failed) (split_take told n f is), count_more (take n told) f);
 }
@@ -136,7 +136,7 @@ module _ {A P : Type 0} where
           ∙ itself x.0.path)
 
       by : (b c : Bool) → eqb i s ≡ b → eqb j t ≡ c → (i ≡ s) × (j ≡ t)
-      by true true p q = (same_number i s p, same_number j t q)
+      by true true p q = (exact_unsigned_eq i s p, exact_unsigned_eq j t q)
       by true false p q = absurd (clash (λ h. other_number j t q h.1))
       by false c p q = absurd (clash (λ h. other_number i s p h.0))
 
@@ -209,7 +209,8 @@ knows_more order.BottomUp level items places old new paths paths' on fresh t len
 knows_more order.TopDown level items places old new paths paths' on fresh t len w v = record {
   sound = λ q e. by q (v.sound q e);
   complete = λ k x f at has not. elim (eqb (level_of x.path) level) as (λ b. eqb (level_of x.path) level ≡ b → has_path paths' x.path ≡ true) [
-    | true ↦ λ e. let a = on.all k x (slice_get_within items k x at) at (same_number (level_of x.path) level e) in v.each a.place k x f a.early a.at at has not
+    | true ↦ λ e. let a = on.all k x (slice_get_within items k x at) at
+        (exact_unsigned_eq (level_of x.path) level e) in v.each a.place k x f a.early a.at at has not
     | false ↦ λ e. v.kept x.path (w.complete k x f at (sym (t.others k x at (other_number (level_of x.path) level e)) ∙ has) not)
   ] refl;
 }

@@ -27,17 +27,17 @@ use Rattle.entry_pages.specs.declared.entries.Mark.TheVariants as mark
 use Rattle.entry_pages.proofs.Counted.{bit}
 use Rattle.tree_walk.specs.Walk.{walk, walk_down, all_told, told, entry_of, children_of, paths_of, WalkAscends, WalkFindsAll}
 use Rattle.tree_walk.specs.Roots.{is_in, is_in_some, IsRoots}
-use Rattle.tree_walk.proofs.Lists.{all_append}
 use Rattle.test_tree.specs.Nodes.{test_files}
 use Rattle.test_tree.specs.Laws.{FirstNodeIsThere, TestFilesAreTree, NoChildIsFar, NodesAreCounted}
 use Rattle.list_report.specs.Laws.{MadeWalkIsFine}
 use Rattle.list_report.specs.Tests.{made_root}
+use Rattle.flat_list.proofs.Pieces.{all_join}
 
 -- what holds of the entry of each path holds of a walk
 
 all_flat : {X Y : Type 0} (P : Y → Type 0) (f : X → List Y) → ((x : X) → AllByRecursion P (f x)) → (xs : List X) → AllByRecursion P (flat_map f xs)
 all_flat P f h [] = tt
-all_flat P f h (x ∷ xs) = all_append P (f x) (flat_map f xs) (h x) (all_flat P f h xs)
+all_flat P f h (x ∷ xs) = all_join P (f x) (flat_map f xs) (h x) (all_flat P f h xs)
 
 all_down : (P : Entry → Type 0) (files : Files) → ((path : List ℕ) → P (entry_of (told 0) (get files path) path)) → (levels : ℕ) (path : List ℕ) →
     AllByRecursion P (walk_down levels files all_told path)

@@ -46,7 +46,7 @@ list_names_nothing law asked now before after within fine report r =
     r.counts ∙ ap length (law asked.common asked.start asked.chosen now before found r.chosen r.notes r.account within.start side fine.there r.finds)
 
 -- the output has a place, where there is one
-has_place : (files : Files) (output : Option (List ℕ)) (entries : List Entry) → IfSome output (λ path. can_save files path ≡ true) →
+pub has_place : (files : Files) (output : Option (List ℕ)) (entries : List Entry) → IfSome output (λ path. can_save files path ≡ true) →
     All (λ o. can_save files o.path ≡ true) (output_of output entries)
 has_place files None entries can = All-from_recursion (λ (o : Output). can_save files o.path ≡ true) [] tt
 has_place files (Some path) entries can =

@@ -18,7 +18,7 @@ use Rattle.path_text.proofs.Levels.{as_deep, parent_above}
 use Rattle.path_text.proofs.Parents.{parent_under}
 use Rattle.path_text.proofs.Within.{some_bytes, within_up}
 
-or_true : (b : Bool) → (b || true) ≡ true
+pub or_true : (b : Bool) → (b || true) ≡ true
 or_true true = refl
 or_true false = refl
 

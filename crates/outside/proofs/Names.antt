@@ -1,7 +1,7 @@
 -- The names of the children of a directory are names, and ascend in byte order.
 use Rattle.std.proofs.Common.{◌≡◌, ℕ, ◌≤◌, Bool, true, false, cond, ◌&&◌, ◌||◌, List, [], ◌∷◌, ◌++◌, map, length, Option, Some, None, refl}
 use Rattle.std.proofs.Common.{ap, ◌∙◌, sym, subst, arith}
-use Rattle.std.proofs.lemmas.Bool.{false≢true}
+use Rattle.std.proofs.lemmas.Bool.{false≢true, or_parts}
 use Rattle.std.specs.Prelude.{IsTrue, T}
 use Rattle.std.specs.Option.{is_none, is_some}
 use Rattle.std.specs.List.{list_any, AllByRecursion, filter_map, cons_option, Contains}
@@ -110,10 +110,6 @@ fine_names p (q ∷ qs) v =
 
 -- behind the same front path order is the order of the names
 
-neither : (a b : Bool) → (a || b) ≡ false → (a ≡ false) × (b ≡ false)
-neither true b e = absurd (false≢true (sym e))
-neither false b e = (refl, e)
-
 one_byte : (a b : ℕ) (r s : Ordering) → is_slash a ≡ false → is_slash b ≡ false
     → ordering_then (nat_cmp (byte_rank a) (byte_rank b)) r ≡ Less → (r ≡ Less → s ≡ Less) → ordering_then (nat_cmp a b) s ≡ Less
 one_byte a b r s p q e h = grind (arith, nat_tests)
@@ -123,7 +119,7 @@ by_bytes [] [] s t e = e
 by_bytes [] (b ∷ n) s t e = refl
 by_bytes (a ∷ m) [] s t e = e
 by_bytes (a ∷ m) (b ∷ n) s t e =
-    let l = neither (is_slash a) (list_any is_slash m) s in let r = neither (is_slash b) (list_any is_slash n) t in
+    let l = or_parts (is_slash a) (list_any is_slash m) s in let r = or_parts (is_slash b) (list_any is_slash n) t in
     one_byte a b (path_cmp m n) (slice_cmp nat_cmp m n) l.0 r.0 e (by_bytes m n l.1 r.1)
 
 later_names : (p m k : List ℕ) (qs : List (List ℕ)) → k ≡ front p ++ m → list_any is_slash m ≡ false

@@ -1,18 +1,13 @@
 -- Two leases at once.
 use Rattle.std.proofs.Common.{◌≡◌, ℕ, Bool, true, false, cond, not, List, None, refl, ap, ◌∙◌, sym}
 use Rattle.std.proofs.lemmas.Bool.{false≢true}
-use Rattle.std.specs.FinMap.{get, get-retain_keys, same_map}
+use Rattle.std.specs.FinMap.{get, same_map}
 use Rattle.path_text.specs.Total.{path_cmp_total, path_cmp_same}
 use Rattle.outside.specs.Tree.{Files}
 use Rattle.outside.specs.Lease.{in_tops, leased, kept}
 use Rattle.outside.specs.Laid.{laid, get_laid}
 use Rattle.outside.specs.Parts.{LeasesOverlap}
-
-get_part : (tops : List (List ℕ)) (files : Files) (q : List ℕ) → get (leased tops files) q ≡ cond (in_tops tops q) (get files q) None
-get_part tops files q = get-retain_keys files (in_tops tops) q (λ x e. ap (in_tops tops) (sym (path_cmp_same q x e)))
-
-get_rest : (tops : List (List ℕ)) (files : Files) (q : List ℕ) → get (kept tops files) q ≡ cond (not (in_tops tops q)) (get files q) None
-get_rest tops files q = get-retain_keys files (λ x. not (in_tops tops x)) q (λ x e. ap (λ y. not (in_tops tops y)) (sym (path_cmp_same q x e)))
+use Rattle.outside.proofs.Leased.{get_rest, get_part}
 
 pub leases_overlap : LeasesOverlap
 leases_overlap one two own own' files next last apart first second = record {

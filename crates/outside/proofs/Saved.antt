@@ -23,10 +23,10 @@ use Rattle.outside.specs.declared.plots.WriteError.TheVariants as write
 use Rattle.outside.specs.declared.saving.SaveError.{SaveError}
 use Rattle.outside.specs.declared.saving.SaveError.TheVariants as e
 
-tie : (q p : List ℕ) → eq_by_cmp path_cmp q p ≡ pointwise nat_eq q p
+pub tie : (q p : List ℕ) → eq_by_cmp path_cmp q p ≡ pointwise nat_eq q p
 tie q p = sym (path_cmp_ties q p)
 
-at_itself : (p : List ℕ) → pointwise nat_eq p p ≡ true
+pub at_itself : (p : List ℕ) → pointwise nat_eq p p ≡ true
 at_itself p = (bytes_decides p p).1 refl
 
 -- one node put

@@ -73,7 +73,7 @@ tells files path (seen.At mtime) there told none = refl
 tells files path seen.Absent there told none = absurd (false≢true (sym (ap is_some told) ∙ there))
 tells files path seen.Failed there told none = absurd (omega arith)
 
-none_counted : (n old new : ℕ) → RoseBy n old new → StoodStill old new → n ≡ 0
+pub none_counted : (n old new : ℕ) → RoseBy n old new → StoodStill old new → n ≡ 0
 none_counted n old new r s = omega (arith, r.rose, s.same, s.below_end)
 
 pub looks_without_faults_are_told : LooksWithoutFaultsAreTold

@@ -1,14 +1,11 @@
 -- The first byte that is written as an escape, found by blocks.
-use Rattle.std.proofs.Common.{◌≡◌, ℕ, ◌+◌, ◌≤◌, Bool, true, false, not, ◌||◌, List, [], ◌∷◌, length, take, drop, refl, ◌∙◌, arith, Some, None, cond}
+use Rattle.std.proofs.Common.{◌≡◌, ℕ, ◌+◌, ◌≤◌, Bool, true, false, not, List, [], ◌∷◌, length, take, drop, refl, ◌∙◌, arith, Some, None, cond}
 use Rattle.std.proofs.Common.{zero, suc, length-drop}
 use Rattle.std.specs.Prelude.{nat_lt}
 use Rattle.std.specs.List.{list_any, position, position_or_len}
 use Rattle.std.proofs.lemmas.Bool.Decides.{nat_tests}
 use Rattle.path_text.specs.Escape.{is_escaped}
-
-neither : (a b : Bool) → (a || b) ≡ false → (a ≡ false) × (b ≡ false)
-neither true b e = cc
-neither false b e = (refl, e)
+use Rattle.std.proofs.lemmas.Bool.{or_parts}
 
 one_more : (b : Bool) (n k : ℕ) → b ≡ false → k ≤ n → suc k ≤ cond (not b) (1 + n) 0
 one_more true n k e h = cc
@@ -19,7 +16,7 @@ clean_block : (xs : List ℕ) (n : ℕ) → n ≤ length xs → list_any is_esca
 clean_block xs zero h e = omega arith
 clean_block [] (suc n) h e = absurd (omega arith)
 clean_block (x ∷ xs) (suc n) h e =
-    let w = neither (is_escaped x) (list_any is_escaped (take n xs)) e in
+    let w = or_parts (is_escaped x) (list_any is_escaped (take n xs)) e in
     one_more (is_escaped x) (position_or_len is_escaped xs) n w.0 (clean_block xs n (omega arith) w.1)
 
 skipped : (b : Bool) (n k : ℕ) → suc k ≤ cond (not b) (1 + n) 0 → (k ≤ n) × (cond (not b) (1 + n) 0 ≡ 1 + n)

@@ -19,7 +19,7 @@ pub equal : (x : List ℕ) → path_cmp x x ≡ Equal
 equal [] = refl
 equal (b ∷ x) = self_equal b (path_cmp x x) ∙ equal x
 
-below_top : (top : List ℕ) → below_of top top ≡ 47 ∷ []
+pub below_top : (top : List ℕ) → below_of top top ≡ 47 ∷ []
 below_top top = ap (λ r. 47 ∷ r) (sym (nothing_left top))
 
 root_first : (names : List ℕ) → 0 < length names → path_cmp (47 ∷ []) (47 ∷ names) ≡ Less

@@ -2,7 +2,7 @@
 use Rattle.std.proofs.Common.{◌≡◌, ℕ, ◌+◌, ◌-◌, ◌<◌, ◌≤◌, zero, suc, Bool, true, false, not, cond, eqb, ◌||◌, None, List, [], ◌∷◌, ◌++◌}
 use Rattle.std.proofs.Common.{length, take, drop, get_or, refl, ap, sym, ◌∙◌, arith, append_assoc, length-append}
 use Rattle.std.specs.List.{list_any, before_last, after_last, suffix_len, slice_split}
-use Rattle.std.proofs.lemmas.Bool.{false≢true}
+use Rattle.std.proofs.lemmas.Bool.{false≢true, or_parts}
 use Rattle.std.proofs.lemmas.Bool.Decides.{nat_tests}
 use Rattle.std.proofs.lemmas.List.{take_at, drop_at, get_or-append_right}
 use Rattle.std.proofs.lemmas.List.Sums.{suffix_len_is}
@@ -19,14 +19,10 @@ use Rattle.path_text.proofs.Within.{not_one, not_root}
 
 -- ---- a text around its last slash
 
-neither : (a b : Bool) → (a || b) ≡ false → (a ≡ false) × (b ≡ false)
-neither true b e = absurd (false≢true (sym e))
-neither false b e = (refl, e)
-
 pub all_bare : (y : List ℕ) (k : ℕ) → list_any is_slash y ≡ false → k < length y → not (is_slash (get_or y k 0)) ≡ true
 all_bare [] k e l = absurd (omega arith)
 all_bare (b ∷ y) k e l =
-    let n = neither (is_slash b) (list_any is_slash y) e in
+    let n = or_parts (is_slash b) (list_any is_slash y) e in
     elim k as (λ k. k < length (b ∷ y) → not (is_slash (get_or (b ∷ y) k 0)) ≡ true) [
       | zero ↦ λ l. ap not n.0
       | suc j ↦ λ l. all_bare y j n.1 (omega arith)
@@ -76,7 +72,7 @@ pub record CutAtSlash (x : List ℕ) : Type 0 where
   pub whole : x ≡ before ++ 47 ∷ base
   pub bare : list_any is_slash base ≡ false
 
-slash_is : (b : ℕ) → is_slash b ≡ true → b ≡ 47
+pub slash_is : (b : ℕ) → is_slash b ≡ true → b ≡ 47
 slash_is b e = grind (arith, nat_tests)
 
 or_first : (a b : Bool) → (a || b) ≡ true → b ≡ false → a ≡ true

@@ -25,7 +25,7 @@ use Rattle.path_text.specs.Graft.{below_of, grafted, GraftUndoesBelow}
 use Rattle.path_text.proofs.Preorder.{front-joined}
 use Rattle.path_text.proofs.Joined.{split_more, split_name, behind, first_slash, names_fine}
 
-no_slash : (b : ℕ) → b ≢ 47 → not (is_slash b) ≡ true
+pub no_slash : (b : ℕ) → b ≢ 47 → not (is_slash b) ≡ true
 no_slash b h = grind (arith, nat_tests)
 
 a_slash : (b : ℕ) → b ≡ 47 → not (is_slash b) ≡ false

@@ -1,5 +1,5 @@
 -- The bytes of a path that stand for themselves.
-use Rattle.std.proofs.Common.{◌≡◌, ℕ, ◌+◌, ◌/◌, ◌%◌, ◌<◌, ◌≤◌, true, false, not, List, [], ◌∷◌, ◌++◌, length, take, drop, get_or, refl, ap, ◌∙◌, sym}
+use Rattle.std.proofs.Common.{◌≡◌, ℕ, ◌+◌, ◌<◌, ◌≤◌, true, false, not, List, [], ◌∷◌, ◌++◌, length, take, drop, get_or, refl, ap, ◌∙◌, sym}
 use Rattle.std.proofs.Common.{arith, Option, Some, None, cond, zero, suc, append-nil, drop-cons, add-one}
 use Rattle.std.specs.Prelude.{slice_index}
 use Rattle.std.specs.List.{position, position_or_len}
@@ -7,10 +7,8 @@ use Rattle.std.specs.Option.{IfSome, IfNone}
 use Rattle.std.proofs.Math.Seq.{take-length, drop-length}
 use Rattle.std.proofs.lemmas.List.Sums.{passes_at_first}
 use Rattle.path_text.proofs.Split.{place, no_place}
-use Rattle.path_text.specs.Escape.{hex_digit, is_escaped, escaped, escape}
-
-as_is : (x : ℕ) → is_escaped x ≡ false → escaped x ≡ x ∷ []
-as_is x e = ap (λ b. cond b (92 ∷ 120 ∷ hex_digit (x / 16) ∷ hex_digit (x % 16) ∷ []) (x ∷ [])) e
+use Rattle.path_text.specs.Escape.{is_escaped, escaped, escape}
+use Rattle.path_text.proofs.Readable.{as_itself}
 
 -- the bytes up to the first that does not are written as they are
 plain : (xs : List ℕ) (k : ℕ) → k ≤ position_or_len is_escaped xs → escape xs ≡ take k xs ++ escape (drop k xs)
@@ -20,7 +18,7 @@ plain (x ∷ xs) (suc k) h =
     elim (is_escaped x) as (λ b. is_escaped x ≡ b → suc k ≤ cond (not b) (1 + position_or_len is_escaped xs) 0 →
     escaped x ++ escape xs ≡ x ∷ (take k xs ++ escape (drop k xs))) [
       | true ↦ λ e h. absurd (omega arith)
-      | false ↦ λ e h. ap (λ l. l ++ escape xs) (as_is x e) ∙ ap (λ r. x ∷ r) (plain xs k (omega arith))
+      | false ↦ λ e h. ap (λ l. l ++ escape xs) (as_itself x e) ∙ ap (λ r. x ∷ r) (plain xs k (omega arith))
     ] refl h
 
 -- the bytes before the one at k, that one, which does not stand for itself, and the rest

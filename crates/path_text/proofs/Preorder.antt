@@ -1,7 +1,7 @@
 -- Path order is preorder: a path comes before its children, they come in the order of their names, and all that is under a path comes before what follows it.
 use Rattle.std.proofs.Common.{◌≡◌, ℕ, ◌<◌, Bool, true, false, not, ◌&&◌, ◌||◌, List, [], ◌∷◌, ◌++◌, length, refl, ap, ◌∙◌, sym, subst, arith, cond}
 use Rattle.std.proofs.Common.{append_assoc, append-nil, length-append}
-use Rattle.std.proofs.lemmas.Bool.{false≢true}
+use Rattle.std.proofs.lemmas.Bool.{false≢true, or_parts}
 use Rattle.std.specs.Prelude.{◌==◌, nat_lt}
 use Rattle.std.specs.List.{list_any}
 use Rattle.std.specs.Ordering.{nat_cmp, ordering_then}
@@ -74,18 +74,14 @@ higher_name : (a b : ℕ) (p : Bool) (rest : Ordering) → is_slash a ≡ false 
     (rest ≡ Less → p ≡ true) → (nat_lt (byte_rank a) (byte_rank b) || (a == b && p)) ≡ true
 higher_name a b p rest s t e h = grind (arith, nat_tests)
 
-neither : (a b : Bool) → (a || b) ≡ false → (a ≡ false) × (b ≡ false)
-neither true b e = absurd (false≢true (sym e))
-neither false b e = (refl, e)
-
 -- names without a slash, in the order of their bytes
 names_before : (m n : List ℕ) → list_any is_slash m ≡ false → list_any is_slash n ≡ false → slice_cmp nat_cmp m n ≡ Less → before_all (m ++ 47 ∷ []) n ≡ true
 names_before [] [] s t e = cc
-names_before [] (b ∷ n) s t e = slash_first b _ (neither (is_slash b) (list_any is_slash n) t).0
+names_before [] (b ∷ n) s t e = slash_first b _ (or_parts (is_slash b) (list_any is_slash n) t).0
 names_before (a ∷ m) [] s t e = cc
 names_before (a ∷ m) (b ∷ n) s t e =
-    let l = neither (is_slash a) (list_any is_slash m) s in
-    let r = neither (is_slash b) (list_any is_slash n) t in
+    let l = or_parts (is_slash a) (list_any is_slash m) s in
+    let r = or_parts (is_slash b) (list_any is_slash n) t in
     higher_name a b (before_all (m ++ 47 ∷ []) n) (slice_cmp nat_cmp m n) l.0 r.0 e (names_before m n l.1 r.1)
 
 pub self_equal : (a : ℕ) (rest : Ordering) → ordering_then (nat_cmp (byte_rank a) (byte_rank a)) rest ≡ rest
@@ -110,10 +106,10 @@ pub some_front : (p : List ℕ) → 0 < length (front p)
 some_front [] = omega arith
 some_front (a ∷ p) = elim (length (a ∷ p) == 1) as (λ b. 0 < length (cond b (a ∷ p) (a ∷ p ++ 47 ∷ []))) [ true ↦ omega arith | false ↦ omega arith ]
 
-not_one : (n : ℕ) → 1 < n → (n == 1) ≡ false
+pub not_one : (n : ℕ) → 1 < n → (n == 1) ≡ false
 not_one n h = grind (arith, nat_tests)
 
-front_of_child : (p name : List ℕ) → 0 < length name → front (joined p name) ≡ front p ++ (name ++ 47 ∷ [])
+pub front_of_child : (p name : List ℕ) → 0 < length name → front (joined p name) ≡ front p ++ (name ++ 47 ∷ [])
 front_of_child p name h =
     let long : 1 < length (joined p name) = omega (arith, sym (ap length (front-joined p name)), length-append (front p) name, some_front p) in
     ap (λ b. cond b (joined p name) (joined p name ++ 47 ∷ [])) (not_one (length (joined p name)) long)

@@ -175,16 +175,12 @@ read_on old mid new s plain behind enc rest whole w h m n e r =
     (λ i. (n ∙ (λ k. m k ++ e k)) i ++ unescaped (r i)) ∙ append_assoc (old ++ plain) (told_byte (92 ∷ behind) ∷ []) (unescaped (drop 3 behind))
     ∙ append_assoc old plain (told_byte (92 ∷ behind) ∷ unescaped (drop 3 behind)) ∙ ap (λ t. old ++ t) (sym w.read) ∙ h
 
-none_past : (xs : List ℕ) → ((i : ℕ) → i < length xs → get_or xs i 0 ≢ 92) → unescaped xs ≡ xs
+pub none_past : (xs : List ℕ) → ((i : ℕ) → i < length xs → get_or xs i 0 ≢ 92) → unescaped xs ≡ xs
 none_past [] h = refl
 none_past (x ∷ xs) h = one x xs (other x (h 0 (omega arith))) ∙ ap (λ r. x ∷ r) (none_past xs (λ i l. h (suc i) (omega arith)))
   where
     other : (x : ℕ) → x ≢ 92 → (x == 92) ≡ false
     other x h = grind (arith, nat_tests)
-
--- a text without a backslash is read as it stands
-pub last_piece : (s : List ℕ) → ((i : ℕ) → i < length s → get_or s i 0 ≢ 92) → unescaped s ≡ s
-last_piece = none_past
 
 -- the byte that a place adds
 pub good_at : (s : List ℕ) (at : ℕ) → at < length s → good_len (drop at s)

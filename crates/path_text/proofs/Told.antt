@@ -105,7 +105,7 @@ dots_told (b ∷ p) =
     (λ e. ap (λ t. t && list_all (λ b. b == 46) p) (sym (escaped_dot b e)))
     (λ e. ap (λ t. (b == 46) && t) (dots_told p))
 
-both : (a b : Bool) → (a && b) ≡ true → (a ≡ true) × (b ≡ true)
+pub both : (a b : Bool) → (a && b) ≡ true → (a ≡ true) × (b ≡ true)
 both true b e = (refl, e)
 both false b e = cc
 
@@ -115,7 +115,7 @@ dots_plain (b ∷ p) h =
     let w = both (b == 46) (list_all (λ b. b == 46) p) h in
     (λ i. as_itself b (plain_dot b w.0) i ++ dots_plain p w.1 i)
 
-and_false : (a : Bool) → (a && false) ≡ false
+pub and_false : (a : Bool) → (a && false) ≡ false
 and_false true = refl
 and_false false = refl
 
@@ -128,7 +128,7 @@ few_dots p =
           ∙ ap (λ t. nat_le (length p) 2 && t) (sym e)
     ] refl
 
-some_length : (s : List ℕ) → 0 < length s → (length s == 0) ≡ false
+pub some_length : (s : List ℕ) → 0 < length s → (length s == 0) ≡ false
 some_length s h = grind (arith, nat_tests)
 
 empty_told : (p : List ℕ) → (length (escape p) == 0) ≡ (length p == 0)

@@ -42,7 +42,7 @@ names_under x u h =
       whole = e;
     }
 
-less : (m n : ℕ) → m < n → nat_lt m n ≡ true
+pub less : (m n : ℕ) → m < n → nat_lt m n ≡ true
 less m n h = grind (arith, nat_tests)
 
 pub is_under_by : (x u names : List ℕ) → x ≡ front u ++ names → 0 < length names → IsTrue (is_under x u)

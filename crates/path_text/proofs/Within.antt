@@ -52,12 +52,6 @@ within_longer x p w = ⊎_elim (λ e. omega (arith, ap length e)) (λ u. omega (
 pub never_under_itself : (p : List ℕ) → IsTrue (is_under p p) → ⊥
 never_under_itself p u = absurd (omega (arith, under_longer p p u))
 
-pub under_is_other : (x p : List ℕ) → IsTrue (is_under x p) → pointwise nat_eq x p ≡ false
-under_is_other x p u = elim (pointwise nat_eq x p) as (λ b. pointwise nat_eq x p ≡ b → b ≡ false) [
-  | true ↦ λ same. absurd (never_under_itself p (subst (λ t. IsTrue (is_under t p)) ((bytes_decides x p).0 same) u))
-  | false ↦ λ _. refl
-] refl
-
 -- all paths are within `/`
 pub within_root : (p : List ℕ) → refusal p ≡ None → IsTrue (is_within p (47 ∷ []))
 within_root [] v = cc

@@ -164,7 +164,7 @@ pub served_more : (xs : List Bool) (r : ℕ) → r < length xs → get_or xs r f
 served_more xs r h e = let s : sum_by one_if (set xs r true) + one_if (get_or xs r false) ≡ sum_by one_if xs + 1 = sum_by-set one_if xs r true false h in
     let z : one_if (get_or xs r false) ≡ 0 = ap one_if e in omega arith
 
-in_list : (xs : List Bool) (r : ℕ) → get_or xs r false ≡ true → r < length xs
+pub in_list : (xs : List Bool) (r : ℕ) → get_or xs r false ≡ true → r < length xs
 in_list [] r e = cc
 in_list (x ∷ xs) zero e = omega arith
 in_list (x ∷ xs) (suc r) e = let h = in_list xs r e in omega arith

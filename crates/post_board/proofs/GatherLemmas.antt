@@ -1,9 +1,9 @@
 -- Seats that come together, the last one first.
-use Rattle.std.proofs.Common.{◌≡◌, ℕ, ◌+◌, ◌<◌, ◌⊎◌, refl, sym, subst, ap, ◌∙◌, arith, Bool, true, false, List, [], ◌∷◌, ◌++◌, map}
+use Rattle.std.proofs.Common.{◌≡◌, ℕ, ◌+◌, ◌<◌, ◌⊎◌, sym, subst, ap, ◌∙◌, arith, Bool, true, false, List, [], ◌∷◌, ◌++◌, map}
 use Rattle.std.proofs.Common.{None, length, length-append, get_or}
 use Rattle.std.specs.List.{All, Contains}
 use Rattle.std.proofs.Math.Seq.{get_or-append_seam}
-use Rattle.std.proofs.lemmas.List.{get_or_default}
+use Rattle.std.proofs.lemmas.List.{get_or_default, nil_from_length}
 use Rattle.std.proofs.lemmas.List.Elements.{All-nil, All-cons, All-append, Contains-get_or}
 use Rattle.std.proofs.lemmas.List.Sorted.{Contains-permutation, length_permutation}
 use Rattle.ring_core.proofs.TogetherLemmas.{numbered, alone, Brings, Gathered, comes_first, came, comes_next, all_know, first_says}
@@ -20,10 +20,6 @@ use Rattle.post_board.specs.declared.boards.BoardSeat.{BoardSeat}
 
 abbrev pub IsDone : Known → Type 0
 IsDone x = (x.ended ≡ true) ⊎ (x.stopped ≡ true)
-
-empty_list : {A : Type 0} (xs : List A) → length xs ≡ 0 → xs ≡ []
-empty_list [] e = refl
-empty_list (x ∷ xs) e = absurd (omega arith)
 
 -- what is asked of the seat of one rank
 abbrev OfRank : Board → ℕ → ℕ → BoardSeat → Type 0
@@ -58,7 +54,7 @@ module _ (b : Board) (all : List BoardSeat) (D : AllDone shown_by (IsSeat b) all
       let (k, _, _, of) = rank_of other (length left, short, at) in (of.0, of.0.number, of.2, of.3, of.4)
 
   holds_none : (other : BoardSeat) → IsSeat b other → ((r : ℕ) → get_or other.seat.me.0.own.serves r false ≡ false) → other.seat.me.1 ≡ []
-  holds_none other S none = S.held ∙ ap (map (λ r. (r, None))) (empty_list other.held.items (S.count ∙ serves_none other.seat.me.0.own.serves none))
+  holds_none other S none = S.held ∙ ap (map (λ r. (r, None))) (nil_from_length other.held.items (S.count ∙ serves_none other.seat.me.0.own.serves none))
 
   pub begun : {left : List BoardSeat} (last : BoardSeat) {id : TableId} {m : SeatState} {over : Bool} → all ≡ left ++ last ∷ [] → id ≡ last.seat.table_id
       → m ≡ last.seat.me → over ≡ first_ended last.number last.ended false

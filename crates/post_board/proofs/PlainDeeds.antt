@@ -51,7 +51,7 @@ pub asked_is : (a : Option ℕ) (r : ℕ) → a ≡ Some r → elim a [ None ↦
 asked_is None r e = cc
 asked_is (Some v) r e = cc
 
-some_same : (u v : ℕ) → Some u ≡ Some v → u ≡ v
+pub some_same : (u v : ℕ) → Some u ≡ Some v → u ≡ v
 some_same u v e = cc
 
 pub unlike : (d e : PlainMailbox) (k : ℕ) → d ≢ Served k → e ≢ Served k → Alike d e k

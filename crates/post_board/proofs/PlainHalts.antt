@@ -22,7 +22,7 @@ use Rattle.post_board.specs.declared.plain_seats.PlainSeat.{PlainSeat}
 use Rattle.ring_core.proofs.TogetherLemmas.{spare, numbered}
 use Rattle.post_board.proofs.PlainFrames.{After, told_place}
 use Rattle.post_board.proofs.PlainDeeds.{inside}
-use Rattle.post_board.proofs.PlainToken.{not_true}
+use Rattle.std.proofs.lemmas.Bool.{false_from_ne_true}
 
 -- no deed that is an event looks at the words of the halt and the stops
 legal_worded : (me : ℕ) (d : Deed) (t : Told) (halter : Option ℕ) (stops : List Bool) → Legal me d t → Legal me d (worded halter stops t)
@@ -92,11 +92,11 @@ module _ (halter : Option ℕ) (stops : List Bool) (ranks : List PlainRank) wher
 
   -- a rank whose mailbox is not at rest has not stopped
   pub serves_on : (s : PlainSeat) (r : ℕ) → HaltFits halter stops ranks s → (plain ranks r).mailbox ≢ Rest → get_or stops r false ≡ false
-  serves_on s r fits lies = not_true (get_or stops r false) (λ e. lies (fits.gone r e).1)
+  serves_on s r fits lies = false_from_ne_true (get_or stops r false) (λ e. lies (fits.gone r e).1)
 
   -- nor has one that serves it
   pub served_by : (s : PlainSeat) (r k : ℕ) → HaltFits halter stops ranks s → (plain ranks r).mailbox ≡ Served k → get_or stops k false ≡ false
-  served_by s r k fits lies = not_true (get_or stops k false) (λ e. (fits.gone k e).2 r lies)
+  served_by s r k fits lies = false_from_ne_true (get_or stops k false) (λ e. (fits.gone k e).2 r lies)
 
   -- one rank is replaced, with the same mailbox
   pub keeps_own : (s : PlainSeat) (x : PlainRank) → HaltFits halter stops ranks s → s.stopped ≡ false → x.mailbox ≡ (plain ranks s.number).mailbox
@@ -164,7 +164,7 @@ module _ (b : PlainBoard) (all : List PlainSeat) (done : AllDone shown_by (Seats
       let at : place t r ≡ place_of (plain ranks r) = told_place ranks b.token r in
       let number : s.number ≡ r = x.1 in
       ⊎_elim
-      (λ ended. not_true (is_full (place t r).mail) (λ f.
+      (λ ended. false_from_ne_true (is_full (place t r).mail) (λ f.
       (let over : b.token ≡ Over = x.0.0.1.sane.over s.number
       (ap (λ (y : Place). y.ended) (told_place ranks b.token s.number) ∙ x.0.0.0.matches.3 ∙ ended) in
       let quiet : PictureInvariant (length t.places) (picture t) Over = subst (PictureInvariant (length t.places) (picture t)) over x.0.0.1.token in

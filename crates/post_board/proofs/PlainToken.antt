@@ -1,5 +1,5 @@
 -- What moving the token on and ending the run do to a plain board.
-use Rattle.std.proofs.Common.{◌≡◌, ℕ, ◌-◌, ◌<◌, ◌⊎◌, inl, inr, ⊎_elim, refl, sym, subst, ap, ◌∙◌, Bool, true, false}
+use Rattle.std.proofs.Common.{◌≡◌, ℕ, ◌-◌, ◌<◌, ◌⊎◌, inl, inr, ⊎_elim, refl, sym, subst, ap, ◌∙◌, true, false}
 use Rattle.std.proofs.Common.{List, length, map, set, Option, Some, None}
 use Rattle.std.proofs.lemmas.List.{length-map}
 use Rattle.ring_core.specs.declared.states.Colour.{Colour}
@@ -17,6 +17,7 @@ use Rattle.post_board.specs.declared.plain_ranks.PlainRank.{PlainRank}
 use Rattle.post_board.specs.declared.plain_seats.PlainSeat.{PlainSeat}
 use Rattle.post_board.proofs.PlainFrames.{After, told_place, own}
 use Rattle.post_board.proofs.PlainDeeds.{acts, alike_same, inside, mail_is, matching, mine, not_here, own_rest}
+use Rattle.std.proofs.lemmas.Bool.{false_from_ne_true}
 
 here_is : (h : Option Colour) (r : ℕ) (token : Token) → elim h [ None ↦ false | Some c ↦ true ] ≡ true → HereFits h r token
     → token ≡ At r (elim h [ None ↦ Black | Some c ↦ c ])
@@ -122,15 +123,11 @@ conclude_deed ranks token s x e seat live rest here tried first white =
     refl refl refl seat.0.away (λ k. alike_same x.mailbox (plain ranks s.number).mailbox k (ap (λ (y : PlainRank). y.mailbox) e))
     (m.0, m.1, m.2, refl, m.4) tt (λ o ne h. not_here o token _ s.number _ ne at h)
 
-pub not_true : (b : Bool) → (b ≡ true → ⊥) → b ≡ false
-not_true true f = absurd (f refl)
-not_true false f = refl
-
 pub over_quiet : (ranks : List PlainRank) (token : Token) (s : PlainSeat) → IsSeat ranks token s → token ≡ Over → s.busy ≡ false
 over_quiet ranks token s seat over =
     let t : Told = told_of ranks token in
     let quiet : PictureInvariant (length t.places) (picture t) Over = subst (PictureInvariant (length t.places) (picture t)) over seat.1.token in
-    not_true s.busy (λ b. quiet s.number (
+    false_from_ne_true s.busy (λ b. quiet s.number (
       inside ranks s.number seat.0.inside,
       inl (ap (λ (y : Place). y.busy) (told_place ranks token s.number) ∙ seat.0.matches.0 ∙ b),
     ))

@@ -131,7 +131,7 @@ first_words n zeros ws z e =
           ∙ read_of_copies (λ (x : ℕ). x ≡ 0) (n + 3) k 0 0 refl refl;
     }
 
-if_zero : (b : Bool) (x : ℕ) → x ≡ 0 → cond b x 0 ≡ 0
+pub if_zero : (b : Bool) (x : ℕ) → x ≡ 0 → cond b x 0 ≡ 0
 if_zero true x e = e
 if_zero false x e = refl
 

@@ -22,6 +22,7 @@ use Rattle.range_copy.specs.PrivateLarge.{AreApart, is_target_of}
 use Rattle.range_copy.specs.PrivateParts.{is_large, large_of, small_of}
 use Rattle.range_copy.proofs.Fitted.{Free, Known}
 use Rattle.range_copy.proofs.Parted.{large_all, small_all}
+use Rattle.level_work.proofs.Crewed.{map_get}
 
 -- a source and a target of any two pairs are apart
 
@@ -42,12 +43,6 @@ across (z ∷ xs) ys zero j x y h e g =
     let same : z ≡ x = cc in
     ap (λ w. meets w y) (sym same) ∙ any_at (meets z) ys j y (any_append (meets z) xs ys (or_parts (list_any (meets z) (xs ++ ys)) (overlap (xs ++ ys)) h).0) g
 across (z ∷ xs) ys (suc i) j x y h e g = across xs ys i j x y (or_parts (list_any (meets z) (xs ++ ys)) (overlap (xs ++ ys)) h).1 e g
-
-map_get : {X Y : Type 0} (f : X → Y) (xs : List X) (k : ℕ) (x : X) → slice_get xs k ≡ Some x → slice_get (map f xs) k ≡ Some (f x)
-map_get f [] zero x e = cc
-map_get f [] (suc k) x e = cc
-map_get f (y ∷ xs) zero x e = let same : y ≡ x = cc in ap (λ z. Some (f z)) same
-map_get f (y ∷ xs) (suc k) x e = map_get f xs k x e
 
 -- entries of two parts, and two large ones, have other paths
 

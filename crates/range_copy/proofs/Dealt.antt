@@ -8,18 +8,13 @@ use Rattle.range_copy.specs.PrivateFilling.{AreLoads, IsLoad, IsReady, loads_of,
 use Rattle.range_copy.specs.PrivateTurns.{AreReady, IsTurn, hand_of}
 use Rattle.range_copy.specs.declared.fillers.Filler.{Filler}
 use Rattle.range_copy.specs.declared.loads.Load.{Load}
-use Rattle.range_copy.proofs.Loaded.{all_apart, all_push, same_some}
+use Rattle.range_copy.proofs.Loaded.{all_apart, all_push}
+use Rattle.level_work.proofs.Giving.{split_drop_suc, map_set}
 
 -- one place of a list is written
 
 more : (i : ℕ) → i + 1 ≡ suc i
 more i = omega arith
-
-drop_at : {X : Type 0} (xs : List X) (i : ℕ) (x : X) → slice_get xs i ≡ Some x → drop i xs ≡ x ∷ drop (suc i) xs
-drop_at [] zero x e = cc
-drop_at [] (suc i) x e = cc
-drop_at (y ∷ xs) zero x e = ap (λ z. z ∷ xs) (same_some y x e)
-drop_at (y ∷ xs) (suc i) x e = drop_at xs i x e
 
 take_set : {X : Type 0} (xs : List X) (i : ℕ) (x y : X) → slice_get xs i ≡ Some x → take (suc i) (slice_set xs i y) ≡ take i xs ++ y ∷ []
 take_set [] zero x y e = cc
@@ -32,12 +27,6 @@ drop_set [] zero y = refl
 drop_set [] (suc i) y = refl
 drop_set (z ∷ xs) zero y = refl
 drop_set (z ∷ xs) (suc i) y = drop_set xs i y
-
-map_set : {X Y : Type 0} (f : X → Y) (xs : List X) (i : ℕ) (x y : X) → slice_get xs i ≡ Some x → f y ≡ f x → map f (slice_set xs i y) ≡ map f xs
-map_set f [] zero x y e s = cc
-map_set f [] (suc i) x y e s = cc
-map_set f (z ∷ xs) zero x y e s = ap (λ r. r ∷ map f xs) (s ∙ ap f (sym (same_some z x e)))
-map_set f (z ∷ xs) (suc i) x y e s = ap (λ r. f z ∷ r) (map_set f xs i x y e s)
 
 pub spans_both : {T S : Type 0} (xs ys : List (Filler T S)) → spans_of (xs ++ ys) ≡ spans_of xs ++ spans_of ys
 spans_both [] ys = refl
@@ -115,7 +104,7 @@ module _ {T S : Type 0} (piece : S → Piece) (fillers0 : List (Filler T S)) (lo
     rest = ap (λ k. drop k (slice_set fillers i after)) (more i) ∙ drop_set fillers i after ∙ later ∙ ap (λ k. drop k fillers0) (sym (more i));
     taken =
         let own : spans_of (drop i fillers0) ≡ span_of one.load ++ spans_of (drop (suc i) fillers0) =
-        ap spans_of (sym t.rest ∙ drop_at fillers i one at) ∙ ap (λ r. span_of one.load ++ spans_of r) later in
+        ap spans_of (sym t.rest ∙ split_drop_suc fillers i one at) ∙ ap (λ r. span_of one.load ++ spans_of r) later in
         ap (λ r. r ++ spans_of (drop (i + 1) fillers0)) (h.put ∙ ap (λ l. done ++ span_of l) h.last_is)
         ∙ ap (λ k. (done ++ span_of one.load) ++ spans_of (drop k fillers0)) (more i)
         ∙ append_assoc done (span_of one.load) (spans_of (drop (suc i) fillers0)) ∙ ap (λ r. done ++ r) (sym own) ∙ t.taken;
@@ -147,19 +136,13 @@ module _ {T S : Type 0} (piece : S → Piece) (fillers0 : List (Filler T S)) (lo
           let l = t.less in
           omega (arith, same, l)
 
-pub length_set : {X : Type 0} (xs : List X) (i : ℕ) (y : X) → length (slice_set xs i y) ≡ length xs
-length_set [] zero y = refl
-length_set [] (suc i) y = refl
-length_set (x ∷ xs) zero y = refl
-length_set (x ∷ xs) (suc i) y = ap suc (length_set xs i y)
-
 -- there is room for the span that a filler gives away
 pub room_for : {T S : Type 0} (piece : S → Piece) (fillers0 : List (Filler T S)) (loads0 : List (Load S)) (done0 : List S) (i n : ℕ)
     (fillers : List (Filler T S)) (loads : List (Load S)) (done : List S) (one : Filler T S) (last : Option (Load S)) → slice_get fillers i ≡ Some one →
     last ≡ one.load → length done0 + length (spans_of fillers0) ≤ n → Turning piece fillers0 loads0 done0 i fillers loads done →
     length done + length (span_of last) ≤ n
 room_for piece fillers0 loads0 done0 i n fillers loads done one last at is room t =
-    let own = ap length (ap spans_of (sym t.rest ∙ drop_at fillers i one at)) in
+    let own = ap length (ap spans_of (sym t.rest ∙ split_drop_suc fillers i one at)) in
     let a = length-append (span_of one.load) (spans_of (drop (suc i) fillers)) in
     let b = ap length t.taken in
     let c = length-append done (spans_of (drop i fillers0)) in

@@ -33,6 +33,7 @@ use Rattle.range_copy.specs.PrivateLarge.{is_target_of}
 use Rattle.range_copy.specs.PrivateParts.{large_of, small_of}
 use Rattle.range_copy.proofs.Parted.{large_all, none_under, over_target, small_all, target_in_parts}
 use Rattle.range_copy.proofs.Parted.{treated_small}
+use Rattle.flat_list.proofs.Decoded.{is_so}
 
 -- what is known of each entry
 abbrev pub Known : List Pair → Entry → Type 0
@@ -127,16 +128,12 @@ dir_after : (o : Option Node) → option_map (λ n. n.body) o ≡ Some (dir 0) �
 dir_after None e = cc
 dir_after (Some n) e = let same : n.body ≡ dir 0 = cc in ap Rattle.outside.specs.Tree.is_dir_body same
 
-not_on : (b : Bool) → not b ≡ false → b ≡ true
-not_on true e = refl
-not_on false e = absurd (false≢true (sym e))
-
 copied_dir : (stat : Stat) (source old new : Option Node) → stat.kind ≡ kind.Dir → clashes (Some stat) old ≡ false → IsCopyOf stat.kind source old new →
     is_dir new ≡ true
 copied_dir stat source None new k c copy = dir_after new (subst (λ k. IsCopyOf k source None new) k copy)
 copied_dir stat source (Some n) new k c copy =
     let same : new ≡ Some n = subst (λ k. IsCopyOf k source (Some n) new) k copy in
-    ap is_dir same ∙ dir_kind n.body (ap (λ k. is_kind (kind_of n.body) k) (sym k) ∙ not_on (is_kind (kind_of n.body) stat.kind) c)
+    ap is_dir same ∙ dir_kind n.body (ap (λ k. is_kind (kind_of n.body) k) (sym k) ∙ is_so (is_kind (kind_of n.body) stat.kind) c)
 
 abbrev Row : Type 0
 Row = Entry × (List ℕ × Fate)

@@ -10,19 +10,13 @@ use Rattle.range_copy.specs.PrivateFilling.{IsLoad, spans_left}
 use Rattle.range_copy.specs.Ranges.{end_of, last_of}
 use Rattle.range_copy.specs.declared.loads.Load.{Load}
 use Rattle.range_copy.proofs.Cover.{last_above}
-
-pub same_some : {X : Type 0} (a b : X) → Some a ≡ Some b → a ≡ b
-same_some a b e = cc
+use Rattle.level_work.proofs.Working.{same_some}
 
 -- all of a list and one more, and back
 
 pub all_push : {X : Type 0} (P : X → Type 0) (xs : List X) (x : X) → AllByRecursion P xs → P x → AllByRecursion P (xs ++ x ∷ [])
 all_push P [] x h p = (p, tt)
 all_push P (y ∷ xs) x h p = (h.0, all_push P xs x h.1 p)
-
-pub all_both : {X : Type 0} (P : X → Type 0) (xs ys : List X) → AllByRecursion P xs → AllByRecursion P ys → AllByRecursion P (xs ++ ys)
-all_both P [] ys h g = g
-all_both P (x ∷ xs) ys h g = (h.0, all_both P xs ys h.1 g)
 
 pub all_apart : {X : Type 0} (P : X → Type 0) (xs ys : List X) → AllByRecursion P (xs ++ ys) → AllByRecursion P xs × AllByRecursion P ys
 all_apart P [] ys h = (tt, h)

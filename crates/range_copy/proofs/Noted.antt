@@ -6,7 +6,7 @@ use Rattle.std.proofs.lemmas.List.Folds.{list_any-append}
 use Rattle.std.specs.Prelude.{nat_le, Result, Ok, Err, OnOk}
 use Rattle.std.specs.List.{list_any}
 use Rattle.std.specs.Option.{option_map}
-use Rattle.std.specs.Cmp.Lexicographic.{pointwise, bytes_decides}
+use Rattle.std.specs.Cmp.Lexicographic.{pointwise}
 use Rattle.path_text.specs.Graft.{below_of, grafted}
 use Rattle.path_text.specs.Order.{is_within}
 use Rattle.level_work.specs.declared.items.Fate.{Fate}
@@ -14,16 +14,10 @@ use Rattle.level_work.specs.Counts.{is_done}
 use Rattle.tree_copy.specs.Copying.{target_of}
 use Rattle.tree_copy.specs.declared.pairs.Pair.{Pair}
 use Rattle.range_copy.specs.PrivateLarge.{AreFailed, failed_at, fitting_target, has_path}
-use Rattle.range_copy.proofs.Parted.{turned_off}
 use Rattle.range_copy.proofs.Rows.{Row}
 use Rattle.range_copy.proofs.Tried.{fits}
-
-same_turn : (a b : List ℕ) → pointwise nat_eq a b ≡ pointwise nat_eq b a
-same_turn a b = by (pointwise nat_eq b a) refl
-  where
-    by : (t : Bool) → pointwise nat_eq b a ≡ t → pointwise nat_eq a b ≡ t
-    by true e = (bytes_decides a b).1 (sym ((bytes_decides b a).0 e))
-    by false e = turned_off b a e
+use Rattle.path_text.proofs.Told.{and_false}
+use Rattle.level_work.proofs.Sets.{turn}
 
 or_turn : (a b : Bool) → (a || b) ≡ (b || (a || false))
 or_turn true true = refl
@@ -34,10 +28,6 @@ or_turn false false = refl
 or_none : (b : Bool) → (b || (false || false)) ≡ b
 or_none true = refl
 or_none false = refl
-
-pub and_done : (b : Bool) → (b && false) ≡ false
-and_done true = refl
-and_done false = refl
 
 and_on : (b : Bool) → (b && true) ≡ b
 and_on true = refl
@@ -53,14 +43,14 @@ pub noted_done : (pairs : List Pair) (rows : List Row) (paths : List (List ℕ))
 noted_done pairs rows paths p f is h q short =
     h q short ∙ sym (failed_more pairs rows p f q
     ∙ ap (λ b. failed_at pairs rows q || ((pointwise nat_eq (target_of pairs p) q && not b) || false)) is
-    ∙ ap (λ b. failed_at pairs rows q || (b || false)) (and_done (pointwise nat_eq (target_of pairs p) q)) ∙ or_none (failed_at pairs rows q))
+    ∙ ap (λ b. failed_at pairs rows q || (b || false)) (and_false (pointwise nat_eq (target_of pairs p) q)) ∙ or_none (failed_at pairs rows q))
 
 pub noted_more : (pairs : List Pair) (rows : List Row) (paths now : List (List ℕ)) (p t : List ℕ) (f : Fate) → is_done f ≡ false →
     fitting_target pairs p ≡ Some t → ((q : List ℕ) → has_path now q ≡ (pointwise nat_eq q t || has_path paths q)) → AreFailed pairs rows paths →
     AreFailed pairs (rows ++ (p, f) ∷ []) now
 noted_more pairs rows paths now p t f off is more h q short =
     let same = (fits pairs p t is).1 in
-    more q ∙ ap (λ b. b || has_path paths q) (ap (pointwise nat_eq q) same ∙ same_turn q (target_of pairs p))
+    more q ∙ ap (λ b. b || has_path paths q) (ap (pointwise nat_eq q) same ∙ turn q (target_of pairs p))
     ∙ ap (λ b. pointwise nat_eq (target_of pairs p) q || b) (h q short)
     ∙ or_turn (pointwise nat_eq (target_of pairs p) q) (failed_at pairs rows q)
     ∙ ap (λ b. failed_at pairs rows q || (b || false)) (sym (and_on (pointwise nat_eq (target_of pairs p) q))

@@ -7,7 +7,7 @@ use Rattle.std.proofs.lemmas.List.Elements.{All-from_recursion}
 use Rattle.std.specs.FinMap.{get, get-retain_keys}
 use Rattle.std.specs.List.{All, AllByRecursion}
 use Rattle.std.specs.Option.{option_map}
-use Rattle.std.specs.Cmp.Lexicographic.{pointwise, bytes_decides}
+use Rattle.std.specs.Cmp.Lexicographic.{pointwise}
 use Rattle.path_text.specs.Order.{is_under}
 use Rattle.path_text.specs.Path.{refusal}
 use Rattle.path_text.specs.Total.{path_cmp_same}
@@ -24,6 +24,7 @@ use Rattle.range_copy.specs.declared.filled.Filled.{Filled}
 use Rattle.range_copy.specs.declared.filled.Filled.TheVariants as filled
 use Rattle.range_copy.proofs.Cover.{cover}
 use Rattle.range_copy.proofs.Joined.{joined_all}
+use Rattle.outside.proofs.Saved.{at_itself}
 
 -- nothing stands under what is no directory
 
@@ -96,16 +97,13 @@ others p bytes (Some before) t1 t2 c = by t2 c.tree' (subst (λ o. IfSome o (λ 
 
 -- the file is out where it was cut
 
-same_path : (p : List ℕ) → pointwise nat_eq p p ≡ true
-same_path p = (bytes_decides p p).1 refl
-
 pub is_out : (area : Area) (p : List ℕ) (cuts : List ℕ) → area ≡ area_cut p cuts nothing_lent → cuts_in p area ≡ Some cuts
-is_out area p cuts e = ap (cuts_in p) e ∙ ap (λ b. cond b (Some cuts) None) (same_path p)
+is_out area p cuts e = ap (cuts_in p) e ∙ ap (λ b. cond b (Some cuts) None) (at_itself p)
 
 pub is_whole : (area area' : Area) (p : List ℕ) (cuts : List ℕ) → area ≡ area_cut p cuts nothing_lent →
     area' ≡ Rattle.outside.specs.Spans.area_whole p area → area' ≡ nothing_lent
 is_whole area area' p cuts e f = f ∙ ap (Rattle.outside.specs.Spans.area_whole p) e
-    ∙ ap (λ b. Rattle.outside.specs.Writes.all_but [] (cond b [] (record { path = p; cuts = cuts } ∷ []))) (same_path p)
+    ∙ ap (λ b. Rattle.outside.specs.Writes.all_but [] (cond b [] (record { path = p; cuts = cuts } ∷ []))) (at_itself p)
 
 -- spans tell their bytes where the files tell their tree
 

@@ -40,10 +40,10 @@ use Rattle.range_copy.specs.declared.fillers.Filler.{Filler}
 use Rattle.range_copy.specs.declared.loads.Load.{Load}
 use Rattle.range_copy.proofs.Counted.{rose_after}
 use Rattle.range_copy.proofs.Joined.{head_of, tail_of}
-use Rattle.range_copy.proofs.Loaded.{all_both}
 use Rattle.range_copy.proofs.Outcomes.{outcome_by, outcome_rest}
 use Rattle.range_copy.proofs.Tried.{is_file_of}
 use Rattle.range_copy.proofs.Worked.{Paired, by_hands, idle_none}
+use Rattle.flat_list.proofs.Pieces.{all_join}
 
 -- a refusal that does not say that a node is there
 
@@ -257,12 +257,12 @@ module _ {T S : Type 0} (asks : Asks T) (piece : S → Piece) (span_count : S �
   own_read [] (y ∷ ys) h d = absurd h
   own_read (x ∷ xs) [] h d = absurd h
   own_read (x ∷ xs) (y ∷ ys) h d =
-      all_both (λ s. IsRead asks source (piece s)) (span_of y.load) (spans_of ys) (h.0.read d.0) (own_read xs ys h.1 d.1)
+      all_join (λ s. IsRead asks source (piece s)) (span_of y.load) (spans_of ys) (h.0.read d.0) (own_read xs ys h.1 d.1)
 
   pub read_works : (fillers fillers' : List (Filler T S)) (done : List S) → SoFarRead fillers done → AllShown fillers fillers' →
       SoFarRead fillers' (done ++ spans_of fillers')
   read_works fillers fillers' done r h = λ d.
-      all_both (λ s. IsRead asks source (piece s)) done (spans_of fillers') (r (done_before fillers fillers' h d)) (own_read fillers fillers' h d)
+      all_join (λ s. IsRead asks source (piece s)) done (spans_of fillers') (r (done_before fillers fillers' h d)) (own_read fillers fillers' h d)
 
   pub read_ends : (fillers : List (Filler T S)) (done : List S) → spans_of fillers ≡ [] → SoFarRead fillers (done ++ spans_of fillers) →
       SoFarRead fillers done

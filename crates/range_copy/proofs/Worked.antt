@@ -4,7 +4,7 @@ use Rattle.std.proofs.Common.{IfSome, refl, ap, ◌∙◌, sym}
 use Rattle.std.proofs.Common.{subst, arith, is_some, append_assoc, append-nil, length-append}
 use Rattle.std.specs.Prelude.{slice_index_or}
 use Rattle.std.specs.List.{AllByRecursion}
-use Rattle.std.proofs.lemmas.List.{length-map, length-reverse, map-append}
+use Rattle.std.proofs.lemmas.List.{length-map, length-reverse, map-append, nil_from_length}
 use Rattle.outside.specs.Tree.{Files}
 use Rattle.outside.specs.Spans.{Piece}
 use Rattle.range_copy.specs.PrivateFilling.{AreLoads, HasRange, HasWorked, IsShort, span_of, spans_left, spans_of}
@@ -13,7 +13,7 @@ use Rattle.range_copy.specs.declared.fillers.Filler.{Filler}
 use Rattle.range_copy.specs.declared.filled.Filled.{Filled}
 use Rattle.range_copy.specs.declared.filled.Filled.TheVariants as filled
 use Rattle.range_copy.specs.declared.loads.Load.{Load}
-use Rattle.range_copy.proofs.Loaded.{all_both}
+use Rattle.flat_list.proofs.Pieces.{all_join}
 
 -- what is so of the hands is so of the fillers
 
@@ -34,10 +34,6 @@ by_hands P xs ys e h = hands_back P ys (subst (AllByRecursion P) (sym e) (hands_
 pub idle_none : {T S : Type 0} (fillers : List (Filler T S)) → AreIdle fillers → spans_of fillers ≡ []
 idle_none [] h = refl
 idle_none (one ∷ rest) h = ap (λ l. span_of l ++ spans_of rest) h.0 ∙ idle_none rest h.1
-
-pub empty_of : {X : Type 0} (xs : List X) → length xs ≡ 0 → xs ≡ []
-empty_of [] e = refl
-empty_of (x ∷ xs) e = absurd (omega (arith, e))
 
 -- each of a list with that of another one
 abbrev pub Paired : {X : Type 0} → (X → X → Type 0) → List X → List X → Type 0
@@ -95,7 +91,7 @@ module _ {T S : Type 0} (tree : T → Option Files) (piece : S → Piece) (holds
   worked_ranges seen [] (y ∷ ys) h s d = absurd h
   worked_ranges seen (x ∷ xs) [] h s d = absurd h
   worked_ranges seen (x ∷ xs) (y ∷ ys) h s d =
-      all_both (HasRange piece holds source seen) (span_of y.load) (spans_of ys)
+      all_join (HasRange piece holds source seen) (span_of y.load) (spans_of ys)
       (subst (λ t. AllByRecursion (HasRange piece holds source t) (span_of y.load)) s.0 (h.0.ranges d.0))
       (worked_ranges seen xs ys h.1 s.1 d.1)
 
@@ -170,7 +166,7 @@ module _ {T S : Type 0} (tree : T → Option Files) (piece : S → Piece) (holds
         ∙ f.tells;
     are_loads = f.are_loads;
     see = λ seen h. worked_see seen fillers fillers' w (f.see seen h);
-    ranges = λ seen h d. all_both (HasRange piece holds source seen) done (spans_of fillers') (f.ranges seen h (worked_done fillers fillers' w d))
+    ranges = λ seen h d. all_join (HasRange piece holds source seen) done (spans_of fillers') (f.ranges seen h (worked_done fillers fillers' w d))
         (worked_ranges seen fillers fillers' w (f.see seen h) d);
     short = λ seen h. worked_short seen fillers fillers' w (f.see seen h) (f.short seen h);
   }
@@ -192,11 +188,11 @@ module _ {T S : Type 0} (tree : T → Option Files) (piece : S → Piece) (holds
 
   pub none_out : {fillers0 fillers : List (Filler T S)} {done so_far : List S} {loads : List (Load S)} (loads0 : List (Load S)) →
       Filling fillers0 (spans_left loads0) fillers loads done so_far → length loads0 ≤ length done → spans_of fillers ≡ []
-  none_out {fillers = fillers} loads0 f over = empty_of (spans_of fillers) (omega (arith, as_many f, many_left loads0, over))
+  none_out {fillers = fillers} loads0 f over = nil_from_length (spans_of fillers) (omega (arith, as_many f, many_left loads0, over))
 
   none_left : {fillers0 fillers : List (Filler T S)} {done so_far : List S} {loads : List (Load S)} (loads0 : List (Load S)) →
       Filling fillers0 (spans_left loads0) fillers loads done so_far → length loads0 ≤ length done → loads ≡ []
-  none_left {loads = loads} loads0 f over = empty_of loads (omega (arith, as_many f, many_left loads0, many_left loads, over))
+  none_left {loads = loads} loads0 f over = nil_from_length loads (omega (arith, as_many f, many_left loads0, many_left loads, over))
 
   pub filling_ends : {fillers0 fillers : List (Filler T S)} {done : List S} {loads : List (Load S)} (loads0 : List (Load S)) →
       Filling fillers0 (spans_left loads0) fillers loads done (done ++ spans_of fillers) → length loads0 ≤ length done →

@@ -1,17 +1,14 @@
 -- What is chosen of a walk of paths below `/` can be removed.
-use Rattle.std.proofs.Common.{◌≡◌, ◌≢◌, ℕ, ◌<◌, ◌≤◌, true, false, cond, ◌||◌, List, [], ◌∷◌, ◌++◌, length, take, min, Option, Some, None, IfSome}
+use Rattle.std.proofs.Common.{◌≡◌, ◌≢◌, ℕ, ◌≤◌, true, false, cond, ◌||◌, List, [], ◌∷◌, length, take, min, Option, Some, None, IfSome}
 use Rattle.std.proofs.Common.{refl, ap, ◌∙◌, sym, subst, arith, nat_eq, is_some, get_or, length-append, length-take}
 use Rattle.std.proofs.lemmas.Bool.{false≢true}
-use Rattle.std.proofs.lemmas.Bool.Decides.{nat_tests}
 use Rattle.std.proofs.lemmas.List.Elements.{All-filter, All-from_recursion, recursion_from_All}
-use Rattle.std.specs.Prelude.{◌==◌}
 use Rattle.std.specs.FinMap.{get}
 use Rattle.std.specs.List.{All, AllByRecursion, Contains, filter, flat_map, starts_with}
 use Rattle.std.specs.List.Sorted.{IsStrictlySortedBy}
 use Rattle.std.specs.Cmp.Lexicographic.{bytes_decides}
 use Rattle.std.specs.Option.{option_map}
 use Rattle.path_text.specs.Order.{path_cmp, front}
-use Rattle.path_text.specs.Path.{refusal}
 use Rattle.outside.specs.Tree.{Files, Node, is_root, kind_of, stat_of}
 use Rattle.outside.specs.declared.trees.Stat.{Stat}
 use Rattle.entry_pages.specs.declared.entries.Entry.{Entry}
@@ -31,6 +28,8 @@ use Rattle.tool_words.specs.declared.commands.Common.{Common}
 use Rattle.run_report.specs.Sides.{Side}
 use Rattle.run_entries.specs.declared.accounts.Account.{Account}
 use Rattle.run_entries.specs.Entries.{Finds}
+use Rattle.path_text.proofs.Within.{some_bytes}
+use Rattle.path_text.proofs.Parts.{front_other}
 
 -- what is chosen by tests has a stat
 
@@ -53,19 +52,6 @@ stats tests now (e ∷ es) =
 no_longer : (n k m : ℕ) → k ≡ min n m → k ≡ n → n ≤ m
 no_longer n k m e f = omega (arith, e, f)
 
-front_by : (r : List ℕ) → length r ≢ 1 → front r ≡ r ++ 47 ∷ []
-front_by r off = elim (length r == 1) as (λ b. (length r == 1) ≡ b → cond b r (r ++ 47 ∷ []) ≡ r ++ 47 ∷ []) [
-  | true ↦ λ e. absurd (off (one (length r) e))
-  | false ↦ λ _. refl
-] refl
-  where
-    one : (n : ℕ) → (n == 1) ≡ true → n ≡ 1
-    one n e = grind (arith, nat_tests)
-
-some_byte : (r : List ℕ) → refusal r ≡ None → 0 < length r
-some_byte [] e = cc
-some_byte (b ∷ r) e = omega arith
-
 begins_short : (xs needle : List ℕ) → starts_with nat_eq xs needle ≡ true → length needle ≤ length xs
 begins_short xs needle e =
     let same : needle ≡ take (length needle) xs = (bytes_decides needle (take (length needle) xs)).0 e in
@@ -77,7 +63,7 @@ lower_in r p low on = elim (is_root p) as (λ b. is_root p ≡ b → b ≡ false
       let root : p ≡ 47 ∷ [] = (bytes_decides p (47 ∷ [])).0 is in
       let one : length (front p) ≡ 1 = ap (λ x. length (front x)) root in
       let short = begins_short (front p) (front r) on in
-      omega (arith, one, short, ap length (front_by r low.1), length-append r (47 ∷ []), some_byte r low.0))
+      omega (arith, one, short, ap length (front_other r low.1), length-append r (47 ∷ []), some_bytes r low.0))
   | false ↦ λ _. refl
 ] refl
 

@@ -1,4 +1,4 @@
-mod Dealing
+pub mod Dealing
 pub mod TokenLemmas
 pub mod PictureLemmas
 pub mod SeatLemmas

@@ -19,6 +19,7 @@ use Rattle.ring_core.specs.Picture.{at_rest, asked_of, filled_by, refused_by, is
 use Rattle.ring_core.specs.Picture.{mailbox_of, pictured, picture_of, WorldInvariant, IsStepOfPicture}
 use Rattle.ring_core.specs.Run.{HoldsSome, NoEmptyBatch}
 use Rattle.ring_core.proofs.PictureLemmas.{put_here, put_elsewhere, calm_change_keeps_invariant, event_keeps_invariant}
+use Rattle.std.proofs.lemmas.Bool.{or_parts}
 
 -- one rank of the list is replaced
 pub replaced : (ranks : List RankState) (r : ℕ) (x : RankState) → r < length ranks → Becomes (picture_of ranks) r (pictured x) (picture_of (set ranks r x))
@@ -78,10 +79,6 @@ either_black : (mine other : Colour) → (is_black mine || is_black other) ≡ t
 either_black Black other e = refl
 either_black White Black e = refl
 either_black White White e = cc
-
-neither : (a b : Bool) → (a || b) ≡ false → (a ≡ false) × (b ≡ false)
-neither true b e = cc
-neither false b e = (refl, e)
 
 pub over_is : (t : Token) → is_over t ≡ true → t ≡ Over
 over_is (At p c) e = cc
@@ -251,7 +248,7 @@ pub conclude_is_step_of_picture : (ranks : List RankState) (token : Token) (rank
 conclude_is_step_of_picture ranks token rank legal =
     let (s, first, pale) = conclude_says ranks token rank legal in
     let (c, here, dark) = token_at token rank s.4 in
-    let (mine, other) = neither (is_black (rank_of ranks rank).colour) (is_token_black token) pale in (
+    let (mine, other) = or_parts (is_black (rank_of ranks rank).colour) (is_token_black token) pale in (
       (s.0, s.1),
       first,
       s.2,

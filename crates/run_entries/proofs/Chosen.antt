@@ -23,7 +23,7 @@ less_kept x p (e ∷ es) h =
     let rest = less_kept x p es h.1 in
     one_of (λ fs. AllByRecursion (λ z. path_cmp x z ≡ Less) (paths fs)) (p e) (e ∷ filter p es) (filter p es) (h.0, rest) rest
 
-order_kept : (p : Entry → Bool) (es : List Entry) → IsStrictlySortedBy path_cmp (paths es) → IsStrictlySortedBy path_cmp (paths (filter p es))
+pub order_kept : (p : Entry → Bool) (es : List Entry) → IsStrictlySortedBy path_cmp (paths es) → IsStrictlySortedBy path_cmp (paths (filter p es))
 unfolding IsStrictlySortedBy
 order_kept p [] s = tt
 order_kept p (e ∷ es) s =

@@ -42,14 +42,12 @@ use Rattle.run_entries.specs.Entries.{Walked, Listed}
 use Rattle.run_entries.specs.Stopping.{HasTooManyEntries, IsDamagedList, IsAbsent, StopsListing, StopsAt}
 use Rattle.run_entries.specs.Fine.{IsFineWalk, IsFineList, IsFineStart, FineFindsNameNothing, FineFindsStopForMemory, FineWalksNameNothing}
 use Rattle.run_entries.specs.Fine.{FineWalksAreWhole, FineWalksStopForMemory, FinePlacesStopForMemory}
+use Rattle.path_looks.proofs.Told.{none_counted}
 
 -- ---- counts
 
-no_weight : (k old new : ℕ) → RoseBy k old new → StoodStill old new → k ≡ 0
-no_weight k old new rose stood = let a = rose.rose in let b = stood.below_end in let e = stood.same in omega arith
-
-no_fault : (old new : ℕ) → RoseBy 1 old new → StoodStill old new → ⊥
-no_fault old new rose stood = absurd (let e = no_weight 1 old new rose stood in omega arith)
+pub no_fault : (old new : ℕ) → RoseBy 1 old new → StoodStill old new → ⊥
+no_fault old new rose stood = absurd (let e = none_counted 1 old new rose stood in omega arith)
 
 -- a count that stood still did so in both of its parts
 pub record StoodInBoth (old between new : ℕ) : Type 0 where
@@ -128,7 +126,7 @@ whole given files entries before after laws valid told w f stood =
     let all =
     fine files f.roots entries laws.walks (subst (λ rs. 0 < length rs → IsTree files) same tree) f.there
     (subst (λ rs. entries ≡ flat_map (walk files (answers_in entries)) rs) same walks)
-    (no_weight (sum_by weight_of entries) before.count after.count w.counted stood)
+    (none_counted (sum_by weight_of entries) before.count after.count w.counted stood)
     in
     record {
       same = all.0;

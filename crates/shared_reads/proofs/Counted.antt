@@ -1,8 +1,8 @@
 -- Counts of several readers that read together, and then of the first one, which goes on.
-use Rattle.std.proofs.Common.{◌≡◌, ℕ, ◌+◌, ◌-◌, ◌^◌, ◌<◌, ◌≤◌, Bool, true, false, ◌||◌, List, [], ◌∷◌, length, map, get_or, set, refl, ap, ◌∙◌}
+use Rattle.std.proofs.Common.{◌≡◌, ℕ, ◌+◌, ◌-◌, ◌^◌, ◌<◌, ◌≤◌, false, ◌||◌, List, [], ◌∷◌, length, map, get_or, set, refl, ap, ◌∙◌}
 use Rattle.std.proofs.Common.{arith, nat_le, Option}
 use Rattle.std.specs.Prelude.{sum}
-use Rattle.std.proofs.lemmas.Bool.{leb-false}
+use Rattle.std.proofs.lemmas.Bool.{leb-false, or_parts}
 use Rattle.std.proofs.lemmas.Bool.Decides.{nat_tests}
 use Rattle.std.proofs.lemmas.List.{length-map}
 use Rattle.std.proofs.lemmas.List.Sums.{sum_by-cons}
@@ -22,17 +22,13 @@ fell_fell (x ∷ a) [] c h g = absurd h
 fell_fell (x ∷ a) (y ∷ b) [] h g = absurd g
 fell_fell (x ∷ a) (y ∷ b) (z ∷ c) h g = let p = h.0 in let q = g.0 in (omega arith, fell_fell a b c h.1 g.1)
 
-both_false : (a b : Bool) → (a || b) ≡ false → (a ≡ false) × (b ≡ false)
-both_false true b e = cc
-both_false false b e = (refl, e)
-
 -- a count at its end stays there
 pub end_stays : (b c : List ℕ) → NoneFell b c → is_at_end c ≡ false → is_at_end b ≡ false
 end_stays [] [] h e = refl
 end_stays [] (z ∷ c) h e = absurd h
 end_stays (y ∷ b) [] h e = absurd h
 end_stays (y ∷ b) (z ∷ c) h e =
-    let g = both_false (nat_le (2 ^ 64 - 1) z) (is_at_end c) e in
+    let g = or_parts (nat_le (2 ^ 64 - 1) z) (is_at_end c) e in
     let low : nat_le (2 ^ 64 - 1) y ≡ false = below y z h.0 g.0 in
     ap (λ t. t || is_at_end b) low ∙ end_stays b c h.1 g.1
   where
@@ -43,7 +39,7 @@ end_stays (y ∷ b) (z ∷ c) h e =
     below y z h e = less (2 ^ 64 - 1) y z h e
 
 below_end : (n : ℕ) (ns : List ℕ) → is_at_end (n ∷ ns) ≡ false → n < 2 ^ 64 - 1
-below_end n ns e = leb-false (2 ^ 64 - 1) n (both_false (nat_le (2 ^ 64 - 1) n) (is_at_end ns) e).0
+below_end n ns e = leb-false (2 ^ 64 - 1) n (or_parts (nat_le (2 ^ 64 - 1) n) (is_at_end ns) e).0
 
 first_fell : {A : Type 0} (f : A → ℕ) (xs : List A) (x y : A) → 0 < length xs → f (get_or xs 0 x) ≤ f y → NoneFell (map f xs) (map f (set xs 0 y))
 first_fell f [] x y h l = absurd (omega arith)

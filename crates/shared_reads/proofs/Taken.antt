@@ -7,7 +7,7 @@ use Rattle.shared_reads.specs.declared.keeping.Found.{Found}
 use Rattle.shared_reads.specs.declared.keeping.Kept.{Kept}
 use Rattle.shared_reads.specs.Kept.{IsTold, Holds, Stands, IsKept, IsCut, AreCut}
 
-all_front : {A : Type 0} (P : A → Type 0) (xs ys : List A) → AllByRecursion P (xs ++ ys) → AllByRecursion P xs
+pub all_front : {A : Type 0} (P : A → Type 0) (xs ys : List A) → AllByRecursion P (xs ++ ys) → AllByRecursion P xs
 all_front P [] ys h = tt
 all_front P (x ∷ xs) ys h = (h.0, all_front P xs ys h.1)
 

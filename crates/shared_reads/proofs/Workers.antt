@@ -1,5 +1,5 @@
 -- Readers before, while and after they are workers.
-use Rattle.std.proofs.Common.{◌≡◌, ℕ, zero, suc, ◌+◌, ◌-◌, ◌^◌, ◌<◌, Bool, true, false, ◌||◌, List, [], ◌∷◌, ◌++◌, map, length, get_or, refl}
+use Rattle.std.proofs.Common.{◌≡◌, ℕ, zero, suc, ◌+◌, ◌-◌, ◌^◌, ◌<◌, false, ◌||◌, List, [], ◌∷◌, ◌++◌, map, length, get_or, refl}
 use Rattle.std.proofs.Common.{sym, subst, ap, ◌∙◌, arith, Option, All, Vec, Global}
 use Rattle.std.specs.Prelude.{reverse, sum, nat_le}
 use Rattle.std.specs.List.{AllByRecursion, sum_by}
@@ -15,13 +15,11 @@ use Rattle.shared_reads.specs.declared.sharing.Worker.{Worker}
 use Rattle.shared_reads.specs.Counts.{NoneFell, is_at_end, RoseTogether}
 use Rattle.shared_reads.specs.Kept.{IsTold, all_faults}
 use Rattle.shared_reads.specs.Private.Sharing.{IsWorked}
+use Rattle.std.proofs.lemmas.Bool.{or_parts}
+use Rattle.shared_reads.proofs.Taken.{all_front}
 
 not_le : (m n : ℕ) → nat_le m n ≡ false → n < m
 not_le m n e = grind (arith, nat_tests)
-
-both_false : (a b : Bool) → (a || b) ≡ false → (a ≡ false) × (b ≡ false)
-both_false true b e = cc
-both_false false b e = (refl, e)
 
 -- ---- lists turned round
 
@@ -36,10 +34,6 @@ map-reverse f (x ∷ xs) = ap (map f) (reverse_cons x xs) ∙ map-append f (reve
 all_append : {A : Type 0} (P : A → Type 0) (xs ys : List A) → AllByRecursion P (xs ++ ys) → AllByRecursion P ys
 all_append P [] ys h = h
 all_append P (x ∷ xs) ys h = all_append P xs ys h.1
-
-all_front : {A : Type 0} (P : A → Type 0) (xs ys : List A) → AllByRecursion P (xs ++ ys) → AllByRecursion P xs
-all_front P [] ys h = tt
-all_front P (x ∷ xs) ys h = (h.0, all_front P xs ys h.1)
 
 all_turned : {A : Type 0} (P : A → Type 0) (xs : List A) → AllByRecursion P (reverse xs) → AllByRecursion P xs
 all_turned P [] h = tt
@@ -87,9 +81,9 @@ sum-reverse (x ∷ xs) = ap sum (reverse_cons x xs) ∙ sum-append (reverse xs) 
 at_end-reverse : (xs : List ℕ) → is_at_end (reverse xs) ≡ false → is_at_end xs ≡ false
 at_end-reverse [] e = refl
 at_end-reverse (x ∷ xs) e =
-    let g = both_false (is_at_end (reverse xs)) (is_at_end (x ∷ []))
+    let g = or_parts (is_at_end (reverse xs)) (is_at_end (x ∷ []))
     (sym (list_any-append (nat_le (2 ^ 64 - 1)) (reverse xs) (x ∷ [])) ∙ ap is_at_end (sym (reverse_cons x xs)) ∙ e) in
-    let h = (both_false (nat_le (2 ^ 64 - 1) x) false g.1).0 in
+    let h = (or_parts (nat_le (2 ^ 64 - 1) x) false g.1).0 in
     ap (λ b. b || is_at_end xs) h ∙ at_end-reverse xs g.0
 
 fell-append : (a b c d : List ℕ) → NoneFell a b → NoneFell c d → NoneFell (a ++ c) (b ++ d)
@@ -154,7 +148,7 @@ module _ {R O : Type 0} (tree : R → Option Files) (count : R → ℕ) (told : 
   worked_rose [] (w' ∷ ws') l each = absurd (omega arith)
   worked_rose (w ∷ ws) [] l each = absurd (omega arith)
   worked_rose (w ∷ ws) (w' ∷ ws') l each = λ e.
-      let g = both_false (nat_le (2 ^ 64 - 1) (count w'.reader)) (is_at_end (counts_of ws')) e in
+      let g = or_parts (nat_le (2 ^ 64 - 1) (count w'.reader)) (is_at_end (counts_of ws')) e in
       let low : count w'.reader < 2 ^ 64 - 1 = not_le (2 ^ 64 - 1) (count w'.reader) g.0 in
       let rose = (each zero w (omega arith)).counted.rose in
       let later = worked_rose ws ws' (omega arith) (rest w w' ws ws' each) g.1 in
@@ -196,7 +190,7 @@ module _ {R O : Type 0} (tree : R → Option Files) (count : R → ℕ) (told : 
     all_rose = λ no.
         let counts : map count new ≡ map count left ++ reverse (counts_of ws') = ap (map count) back ∙ told-back count left ws' in
         let were : map count readers ≡ map count left ++ reverse (counts_of ws) = ap (map count) (sym lent) ∙ told-back count left ws in
-        let ends = both_false (is_at_end (map count left)) (is_at_end (reverse (counts_of ws')))
+        let ends = or_parts (is_at_end (map count left)) (is_at_end (reverse (counts_of ws')))
         (sym (list_any-append (nat_le (2 ^ 64 - 1)) (map count left) (reverse (counts_of ws'))) ∙ ap is_at_end (sym counts) ∙ no) in
         let more = worked_rose ws ws' as_many each (at_end-reverse (counts_of ws') ends.1) in
         let a : sum (map count new) ≡ sum (map count left) + sum (counts_of ws') = ap sum counts

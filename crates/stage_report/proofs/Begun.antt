@@ -4,7 +4,6 @@ use Rattle.std.specs.List.{All}
 use Rattle.std.specs.FinMap.{get}
 use Rattle.std.proofs.lemmas.List.Elements.{All-from_recursion}
 use Rattle.outside.specs.Tree.{Files}
-use Rattle.outside.specs.Count.{RoseBy, StoodStill}
 use Rattle.outside.specs.Whole.{HoldsFile}
 use Rattle.entry_pages.specs.declared.entries.Entry.{Entry}
 use Rattle.flat_list.specs.Spelling.{Spells}
@@ -23,9 +22,6 @@ use Rattle.stage_report.specs.Laws.{BeginsWalk}
 -- what is so of files that tell their tree
 pub of_told : (P : Files → Type 0) (tree : Option Files) (files : Files) → tree ≡ Some files → IfSome tree P → P files
 of_told P tree files told h = subst (λ t. IfSome t P) told h
-
-pub no_weight : (k old new : ℕ) → RoseBy k old new → StoodStill old new → k ≡ 0
-no_weight k old new rose stood = let a = rose.rose in let b = stood.below_end in let e = stood.same in omega arith
 
 pub some_of : {X : Type 0} (xs : List X) → ((xs ≡ []) → ⊥) → 0 < length xs
 some_of [] h = absurd (h refl)

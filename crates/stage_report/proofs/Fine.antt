@@ -24,7 +24,6 @@ use Rattle.tree_walk.specs.Roots.{IsRoots, RootsAreUnique}
 use Rattle.flat_list.specs.Spelling.{max_entries}
 use Rattle.tree_walk.specs.Found.{IsFound, IsWalkOf}
 use Rattle.tree_walk.specs.Cut.{IsCut, IsCutFound, IsJoined}
-use Rattle.tree_walk.proofs.Lists.{all_append}
 use Rattle.tree_walk.proofs.AnyOrder.{moved}
 use Rattle.tree_walk.proofs.Ordered.{in_order}
 use Rattle.run_report.specs.Sides.{Side}
@@ -32,10 +31,12 @@ use Rattle.run_entries.specs.Fine.{IsFineWalk}
 use Rattle.run_entries.specs.Naming.{on_side, failures_in}
 use Rattle.checkpoints.specs.Laws.{CheckpointsAreOne}
 use Rattle.stage_report.specs.Stages.{all_of, Begins, IsFineCheckpoint, IsFineBeginning}
-use Rattle.stage_report.proofs.Begun.{of_told, no_weight, goes_on}
+use Rattle.stage_report.proofs.Begun.{of_told, goes_on}
 use Rattle.stage_report.proofs.Placed.{few_cover, left_valid, own_roots}
 use Rattle.stage_report.proofs.Printing.{roots_valid}
 use Rattle.stage_report.proofs.Lengths.{number, done_few}
+use Rattle.path_looks.proofs.Told.{none_counted}
+use Rattle.flat_list.proofs.Pieces.{all_join}
 
 -- ---- entries that name nothing
 
@@ -143,7 +144,7 @@ found_fine law files done starts tree old new later told b found stood =
     let walks = of_told (λ files. IsWalkOf files later starts) tree files told found.told b.ordered b.moves b.ascend in
     let valid : 0 < length b.ordered → IsTree files =
     λ some. of_told IsTree tree files told (found.valid (omega (arith, some, length_permutation starts b.ordered b.moves))) in
-    let is = walked law files b.ordered later valid b.there walks (no_weight (sum_by weight_of later) old new found.counted stood) in
+    let is = walked law files b.ordered later valid b.there walks (none_counted (sum_by weight_of later) old new found.counted stood) in
     let Near : Entry → Type 0 = λ e. e.far ≡ 0 in
     record {
       fine = as_fine later is.fine (subst (AllByRecursion Near) (sym is.same) (recursion_from_All Near (flat_map (walk files all_told) b.ordered) b.near));
@@ -162,7 +163,7 @@ cut_few files done starts tree old new later left told b found stood =
     let short = all_weaker Valid (λ p. length p ≤ 4095) parts.short starts b.valid in
     omega (
       arith,
-      done_few files starts left later t short cut (no_weight (sum_by weight_of later) old new found.counted stood),
+      done_few files starts left later t short cut (none_counted (sum_by weight_of later) old new found.counted stood),
       sum_by-IsPermutation (number files) starts b.ordered b.moves,
       length-flat_map (walk files all_told) b.ordered,
     ))
@@ -173,7 +174,7 @@ cut_few files done starts tree old new later left told b found stood =
 
 pub joined_fine : (done later list : List Entry) → IsJoined done later list → AllByRecursion IsFine done → AllByRecursion IsFine later →
     AllByRecursion IsFine list
-joined_fine done later list joined h g = moved IsFine (done ++ later) list joined.all (all_append IsFine done later h g)
+joined_fine done later list joined h g = moved IsFine (done ++ later) list joined.all (all_join IsFine done later h g)
 
 pub joined_few : (done later list : List Entry) (most : ℕ) → IsJoined done later list → length done + most ≤ max_entries → length later ≤ most →
     max_entries < length list → ⊥

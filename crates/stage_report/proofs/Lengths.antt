@@ -10,7 +10,7 @@ use Rattle.tree_walk.specs.Cut.{IsCut}
 use Rattle.tree_walk.proofs.Recursive.{walk_is}
 use Rattle.tree_walk.proofs.Cuts.{kids, handled_by, pushed_by}
 use Rattle.tree_walk.proofs.Restarts.{over, none_over, kids_over}
-use Rattle.cut_laws.proofs.Restart.{weightless}
+use Rattle.tree_walk.proofs.Lawful.{none_failed}
 
 -- ---- each done entry stands for itself and the walks of its children
 
@@ -22,7 +22,7 @@ itself : (files : Files) (e : Entry) → IsTree files → length e.path ≤ 4095
 itself files e t short none =
     ap length (walk_is files all_told e.path t short)
     ∙ ap suc (length-flat_map (walk files all_told) (children_of (told 0) files e.path))
-    ∙ ap (λ answer. suc (sum_by (number files) (children_of answer files e.path))) (sym (weightless (answer_in e) none))
+    ∙ ap (λ answer. suc (sum_by (number files) (children_of answer files e.path))) (sym (none_failed (answer_in e) none))
 
 each_itself : (files : Files) (es : List Entry) → IsTree files → sum_by (λ e. over e.path) es ≡ 0 → sum_by weight_of es ≡ 0 →
     sum_by (λ e. number files e.path) es ≡ length es + sum_by (λ e. sum_by (number files) (kids files e)) es

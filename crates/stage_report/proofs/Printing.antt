@@ -33,7 +33,8 @@ use Rattle.cut_laws.specs.Local.{RestartFindsTheWalk}
 use Rattle.cut_laws.specs.Sorts.{SortsAreUnique}
 use Rattle.stage_report.specs.Stages.{all_of, Begins}
 use Rattle.stage_report.specs.Laws.{StagesPrintTheWalk}
-use Rattle.stage_report.proofs.Begun.{of_told, no_weight, some_of, goes_on}
+use Rattle.stage_report.proofs.Begun.{of_told, some_of, goes_on}
+use Rattle.path_looks.proofs.Told.{none_counted}
 
 -- ---- counts
 
@@ -96,7 +97,7 @@ whole one listed now first last report files given starts told valid are begins 
     let found : IsWhole files starts r.finds.entries r.notes =
     record {
       walks = walks;
-      fine = no_weight (sum_by weight_of r.finds.entries) survey.between r.found w.counted still;
+      fine = none_counted (sum_by weight_of r.finds.entries) survey.between r.found w.counted still;
       rise = w.ascend;
       names = subst (λ ls. AreInOrder (failures_in ls r.finds.entries) r.notes) looks r.finds.names;
     } in
@@ -131,7 +132,7 @@ stages_print_the_walk laws asked before after report files listed now first last
     laws.restart cut.walked files other starts (all_of cut.left) cut.done later r.list w.chosen cut.tree
     (All-from_recursion Valid starts (roots_valid given starts valid are)) are.apart cut.same (λ q h. same q h ∙ cut.same q h) cut.cut
     (subst (IsWalkOf files later) (sym on.same_left) walks) (subst (λ d. IsJoined d later r.list) (sym on.same_done) f.joined) is.walks none
-    (no_weight (sum_by weight_of later) r.begun.count r.found f.walked.counted still) is.fine in
+    (none_counted (sum_by weight_of later) r.begun.count r.found f.walked.counted still) is.fine in
     let printed : r.printed ≡ w.printed =
     one_printed laws.sorts asked.sort w.chosen r.printed w.printed is.rise (subst (λ es. InOrder asked.sort es r.printed) list r.order)
     (subst (λ s. InOrder s w.chosen w.printed) sort w.order) in

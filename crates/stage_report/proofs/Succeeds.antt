@@ -1,12 +1,8 @@
 -- When a stage succeeds.
-use Rattle.std.proofs.Common.{◌≡◌, inl, inr, ◌⊎◌, ℕ, ◌≤◌, true, List, [], length, Option, Some, None, IfSome, ap, ◌∙◌, sym, subst, arith}
+use Rattle.std.proofs.Common.{◌≡◌, inl, inr, ◌⊎◌, ℕ, ◌≤◌, true, length, ap, ◌∙◌, sym, subst, arith}
 use Rattle.std.specs.Option.{is_some}
 use Rattle.std.specs.List.{All}
-use Rattle.std.proofs.lemmas.List.Elements.{All-from_recursion}
-use Rattle.outside.specs.Tree.{Files}
 use Rattle.outside.specs.Count.{StoodStill}
-use Rattle.outside.specs.Whole.{can_save}
-use Rattle.entry_pages.specs.declared.entries.Entry.{Entry}
 use Rattle.tool_text.specs.NoteOrder.{AreInOrder, NothingToOrder}
 use Rattle.tool_words.specs.Asked.{StageAsked}
 use Rattle.tool_words.specs.Limits.{WithinStage}
@@ -17,7 +13,6 @@ use Rattle.run_report.specs.declared.reports.Report.{Report}
 use Rattle.run_report.specs.declared.stops.Stop.{Stop}
 use Rattle.run_report.specs.declared.stops.Stop.TheVariants as stop
 use Rattle.run_report.specs.Sides.{Side, side_with}
-use Rattle.run_entries.specs.declared.saving.Output.{Output}
 use Rattle.run_entries.specs.Fine.{FinePlacesStopForMemory}
 use Rattle.run_entries.specs.Saving.{output_of}
 use Rattle.checkpoints.specs.Kept.{checkpoint_paths}
@@ -27,6 +22,7 @@ use Rattle.stage_report.specs.Stages.{StopsKeeping, StopsStage, IsFineBeginning,
 use Rattle.stage_report.specs.Laws.{FineStageSucceeds}
 use Rattle.stage_report.proofs.Printing.{stood_within}
 use Rattle.stage_report.proofs.Fine.{IsFineBegun, most_of, begun_fine, found_fine, cut_few, joined_fine, joined_few, no_failures}
+use Rattle.list_report.proofs.Succeeds.{has_place}
 
 -- the laws that this rests on
 pub record Laws : Type 0 where
@@ -104,12 +100,6 @@ no_beginning : {asked : StageAsked} {before after : Side} (s : IsFineStage asked
 no_beginning {asked} {before} {after} s why b =
     let f = subst (λ starts. IsFineBeginning s.fine.files starts asked.lists) b.goes_on s.fine.begins in
     s.laws.reads asked.lists f.done f.left s.fine.files before after why s.fine.told s.fine.stood f.kept b.stops
-
--- the output has a place, where there is one
-has_place : (files : Files) (output : Option (List ℕ)) (list : List Entry) → IfSome output (λ path. can_save files path ≡ true) →
-    All (λ o. can_save files o.path ≡ true) (output_of output list)
-has_place files None list can = All-from_recursion (λ (o : Output). can_save files o.path ≡ true) [] tt
-has_place files (Some path) list can = All-from_recursion (λ (o : Output). can_save files o.path ≡ true) (output_of (Some path) list) (can, tt)
 
 no_saving : {asked : StageAsked} {before after : Side} (s : IsFineStage asked before after) (why : Stop) → StopsSavingStage asked before after why →
     why ≡ stop.OutOfMemory

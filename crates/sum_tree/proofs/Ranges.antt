@@ -1,10 +1,11 @@
 -- Sums and tests over neighbouring numbers.
 use Rattle.std.proofs.Common.{◌≡◌, ℕ, zero, suc, ◌+◌, ◌*◌, ◌<◌, ◌≤◌, refl, sym, subst, ap, ◌∙◌, arith, add-zero, zero-add, suc-mul, suc-add, Bool}
-use Rattle.std.proofs.Common.{true, false, ◌&&◌, List, map, [], ◌∷◌, ◌++◌, sum_by}
+use Rattle.std.proofs.Common.{true, ◌&&◌, List, map, [], ◌∷◌, ◌++◌, sum_by}
 use Rattle.std.specs.List.{range_with_len, list_all}
 use mathlib.Core.Logic.{dite}
 use native.Mathlib.Decide.{ℕ_discrete}
 use Rattle.std.proofs.lemmas.List.Sums.{sum_by-cons, sum_by-append}
+use Rattle.path_text.proofs.Told.{both}
 
 -- what holds of the numbers of a range
 abbrev pub Within : ℕ → ℕ → (ℕ → Type 0) → Type 0
@@ -49,14 +50,10 @@ joined_ranges a (suc j) k =
 pub joined_sums : (f : ℕ → ℕ) (a j k : ℕ) → sum_by f (range_with_len a (j + k)) ≡ sum_by f (range_with_len a j) + sum_by f (range_with_len (a + j) k)
 joined_sums f a j k = ap (sum_by f) (joined_ranges a j k) ∙ sum_by-append f (range_with_len a j) (range_with_len (a + j) k)
 
-both_are : (a b : Bool) → (a && b) ≡ true → (a ≡ true) × (b ≡ true)
-both_are true b e = (refl, e)
-both_are false b e = cc
-
 pub tested_at : (p : ℕ → Bool) (a k : ℕ) → list_all p (range_with_len a k) ≡ true → Within a k (λ c. p c ≡ true)
 tested_at p a zero all c low high = absurd (omega arith)
 tested_at p a (suc k) all c low high =
-    let each = both_are (p a) (list_all p (range_with_len (a + 1) k)) all in
+    let each = both (p a) (list_all p (range_with_len (a + 1) k)) all in
     dite (ℕ_discrete c a) (λ e. subst (λ (i : ℕ). p i ≡ true) (sym e) each.0) (λ ne. tested_at p (a + 1) k each.1 c (omega arith) (omega arith))
 
 pub tests_all : (p : ℕ → Bool) (a k : ℕ) → Within a k (λ c. p c ≡ true) → list_all p (range_with_len a k) ≡ true

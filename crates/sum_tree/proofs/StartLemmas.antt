@@ -13,7 +13,7 @@ use Rattle.sum_tree.proofs.Begins.{fresh_is_seat}
 use Rattle.sum_tree.proofs.WordSteps.{face, rule_with}
 use Rattle.sum_tree.specs.TreeRule.{Rule, row_of, told_of, seen_of, fresh, opened}
 
-never : (n r : ℕ) → get_or (replicate n false) r false ≡ false
+pub never : (n r : ℕ) → get_or (replicate n false) r false ≡ false
 never zero r = refl
 never (suc n) zero = refl
 never (suc n) (suc r) = never n r

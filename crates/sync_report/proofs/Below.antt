@@ -7,12 +7,13 @@ use Rattle.std.specs.Cmp.Lexicographic.{bytes_decides}
 use Rattle.path_text.specs.Graft.{below_of, grafted}
 use Rattle.path_text.specs.Order.{front, is_under, is_within}
 use Rattle.path_text.specs.Path.{refusal}
-use Rattle.path_text.proofs.Parts.{begins, below_made, front_other, grafted_names, nothing_left}
+use Rattle.path_text.proofs.Parts.{begins, below_made, front_other, grafted_names}
 use Rattle.path_text.proofs.Preorder.{front-joined, some_front}
 use Rattle.path_text.proofs.Under.{IsUnder, is_under_by, names_under}
 use Rattle.path_text.proofs.Within.{same_or_under, under_within, within_root, within_up}
 use Rattle.outside.specs.Tree.{is_root}
 use Rattle.tree_copy.specs.Placing.{overlap}
+use Rattle.path_text.proofs.Moved.{below_top}
 
 -- ---- two paths of which neither is within the other
 
@@ -34,9 +35,6 @@ not_root s t v off = elim (is_root t) as (λ b. is_root t ≡ b → b ≡ false)
 ] refl
 
 -- ---- below a top
-
-below_itself : (top : List ℕ) → below_of top top ≡ 47 ∷ []
-below_itself top = ap (λ r. 47 ∷ r) (sym (nothing_left top))
 
 -- the names behind a path, and behind one that is under it
 record Deeper (top x y : List ℕ) : Type 0 where
@@ -83,7 +81,7 @@ pub within_below : (top x y : List ℕ) → refusal y ≡ None → IsTrue (is_wi
     IsTrue (is_within (below_of y top) (below_of x top))
 within_below top x y v w d =
     ⊎_elim
-    (λ is. subst (λ b. IsTrue (is_within (below_of y top) b)) (sym (ap (λ z. below_of z top) is ∙ below_itself top))
+    (λ is. subst (λ b. IsTrue (is_within (below_of y top) b)) (sym (ap (λ z. below_of z top) is ∙ below_top top))
     (within_root (below_of y top) (below_made y top (below_of y top) refl v (within_up y x top d w))))
     (λ u.
     let n = deeper top x y u d in
@@ -108,7 +106,7 @@ under_moved top other x y w d = ⊎_elim of_top of_under (same_or_under x top w)
     of_top : x ≡ top → IsTrue (is_under (grafted other (below_of y top)) (grafted other (below_of x top)))
     of_top is =
         let n = names_under y top (subst (λ z. IsTrue (is_under y z)) is d) in
-        subst (λ b. IsTrue (is_under (grafted other (below_of y top)) (grafted other b))) (sym (ap (λ z. below_of z top) is ∙ below_itself top))
+        subst (λ b. IsTrue (is_under (grafted other (below_of y top)) (grafted other b))) (sym (ap (λ z. below_of z top) is ∙ below_top top))
         (is_under_by (grafted other (below_of y top)) other n.names
         (ap (grafted other) (below_is top y n.names n.whole) ∙ grafted_is other n.names n.some) n.some)
 

@@ -35,9 +35,11 @@ use Rattle.tree_walk.specs.Told.{EntriesAreTold, IsTold}
 use Rattle.tree_walk.specs.Walk.{WalkListsAll, all_told, entry_of, told}
 use Rattle.tree_walk.proofs.Lists.{both}
 use Rattle.sync_report.proofs.Below.{under_moved}
-use Rattle.sync_report.proofs.Lists.{any_map, kept, not_kept, passing}
-use Rattle.sync_report.proofs.Told.{AreCompared, chosen_is, is_odd, kind_is, own_kind}
+use Rattle.sync_report.proofs.Lists.{kept, not_kept, passing}
+use Rattle.sync_report.proofs.Told.{AreCompared, chosen_is, is_odd}
 use Rattle.sync_report.proofs.Walked.{each}
+use Rattle.tree_sync.proofs.Both.{kind_eq, kind_is}
+use Rattle.tree_cmp.proofs.Lists.{list_any-map}
 
 dir_kind : (b : Body) → is_dir_body b ≡ true → kind_of b ≡ kind.Dir
 dir_kind (dir far) e = refl
@@ -76,8 +78,8 @@ no_clash : (n m : Option Node) (stat : Option Stat) → is_some stat ≡ true �
 no_clash n None stat some is even = refl
 no_clash None (Some m) stat some is even = absurd (false≢true (sym (ap is_some is) ∙ some))
 no_clash (Some n) (Some m) stat some is even =
-    let same : kind_of n.body ≡ kind_of m.body = kind_is (kind_of n.body) (kind_of m.body) (not_odd (is_kind (kind_of n.body) (kind_of m.body)) (even refl)) in
-    ap (λ s. not (is_of (kind_of m.body) s)) is ∙ (λ i. not (is_kind (kind_of m.body) (same i))) ∙ ap not (own_kind (kind_of m.body))
+    let same : kind_of n.body ≡ kind_of m.body = kind_eq (kind_of n.body) (kind_of m.body) (not_odd (is_kind (kind_of n.body) (kind_of m.body)) (even refl)) in
+    ap (λ s. not (is_of (kind_of m.body) s)) is ∙ (λ i. not (is_kind (kind_of m.body) (same i))) ∙ ap not (kind_is (kind_of m.body))
   where
     not_odd : (b : Bool) → not b ≡ false → b ≡ true
     not_odd true e = refl
@@ -129,7 +131,7 @@ module _ (laws : Laws) (files : Files) (pair : Pair) (source dest : List Entry) 
   odd_at : (q : List ℕ) → list_any (pointwise nat_eq q) (paths chosen) ≡ true → IsOdd q
   odd_at q h =
       let one = passing (λ (e : Entry). pointwise nat_eq q e.path) (λ e. (test e ≡ true) × Known e) chosen (kept test Known dest known)
-      (sym (any_map (pointwise nat_eq q) (λ (e : Entry). e.path) chosen) ∙ h) in
+      (sym (list_any-map (pointwise nat_eq q) (λ (e : Entry). e.path) chosen) ∙ h) in
       let e = one.one in
       let stat = (and_parts (is_some e.stat) _ one.holds.0).0 in
       subst IsOdd (sym ((bytes_decides q e.path).0 one.passes)) (record {
@@ -147,10 +149,10 @@ module _ (laws : Laws) (files : Files) (pair : Pair) (source dest : List Entry) 
   pub even_at : (q : List ℕ) → is_some (get files q) ≡ true → IsTrue (is_within q pair.target) →
       list_any (pointwise nat_eq q) (paths chosen) ≡ false → is_odd (get files (grafted pair.source (below_of q pair.target))) (get files q) ≡ false
   even_at q some on off = false_from_ne_true (is_odd (get files (grafted pair.source (below_of q pair.target))) (get files q)) (λ odd.
-      let none = not_kept test (λ (e : Entry). pointwise nat_eq q e.path) dest (sym (any_map (pointwise nat_eq q) (λ (e : Entry). e.path) chosen) ∙ off) in
+      let none = not_kept test (λ (e : Entry). pointwise nat_eq q e.path) dest (sym (list_any-map (pointwise nat_eq q) (λ (e : Entry). e.path) chosen) ∙ off) in
       let one = passing (λ (e : Entry). pointwise nat_eq q e.path) (λ e. (test e ≡ true → pointwise nat_eq q e.path ≡ false) × Known e) dest
       (both_of (λ e. test e ≡ true → pointwise nat_eq q e.path ≡ false) none)
-      (sym (any_map (pointwise nat_eq q) (λ (e : Entry). e.path) dest) ∙ is_listed q some on) in
+      (sym (list_any-map (pointwise nat_eq q) (λ (e : Entry). e.path) dest) ∙ is_listed q some on) in
       let e = one.one in
       let is : q ≡ e.path = (bytes_decides q e.path).0 one.passes in
       let stat : is_some e.stat ≡ true = sym (stat_some (get files e.path) e.path e one.holds.1.own) ∙ ap (λ x. is_some (get files x)) (sym is) ∙ some in

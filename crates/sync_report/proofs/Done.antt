@@ -34,9 +34,10 @@ use Rattle.tree_walk.specs.Walk.{WalkIsRecursive, all_told, entry_of, told}
 use Rattle.tree_walk.proofs.Lists.{both}
 use Rattle.sync_report.specs.Syncing.{IsFineEntry}
 use Rattle.sync_report.proofs.Chosen as chosen
-use Rattle.sync_report.proofs.Lists.{any_map, kept, passing}
+use Rattle.sync_report.proofs.Lists.{kept, passing}
 use Rattle.sync_report.proofs.Told.{AreCompared}
 use Rattle.sync_report.proofs.Walked.{each}
+use Rattle.tree_cmp.proofs.Lists.{list_any-map}
 
 abbrev Fated : Type 0
 Fated = List ℕ × Fate
@@ -127,7 +128,7 @@ module _ (laws : Laws) (files : Files) (pair : Pair) (delete : Bool) (source des
               (both (λ (row : Fated). WasChosen files mid row.0 row.1) (λ (row : Fated). row.1 ≡ fate.Done) rows
               (recursion_from_All (λ (row : Fated). WasChosen files mid row.0 row.1) rows removed.each)
               (recursion_from_All (λ (row : Fated). row.1 ≡ fate.Done) rows all))
-              (sym (any_map (pointwise nat_eq q) (λ (row : Fated). row.0) rows) ∙ ap (list_any (pointwise nat_eq q)) are ∙ h) in
+              (sym (list_any-map (pointwise nat_eq q) (λ (row : Fated). row.0) rows) ∙ ap (list_any (pointwise nat_eq q)) are ∙ h) in
               ap (get mid) ((bytes_decides q row.one.0).0 row.passes) ∙ row.holds.0.gone row.holds.1;
           same = λ q off. removed.others q (ap (list_any (pointwise nat_eq q)) are ∙ off);
         }) e t on stat;

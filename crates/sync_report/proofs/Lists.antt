@@ -1,5 +1,5 @@
 -- Lists, element by element.
-use Rattle.std.proofs.Common.{◌≡◌, Bool, true, false, cond, ◌||◌, List, [], ◌∷◌, filter, map, Some, refl, ap, ◌∙◌, sym}
+use Rattle.std.proofs.Common.{◌≡◌, Bool, true, false, cond, ◌||◌, List, [], ◌∷◌, filter, Some, refl, ap, ◌∙◌, sym}
 use Rattle.std.proofs.lemmas.Bool.{false≢true, or_parts, or_left, or_right}
 use Rattle.std.specs.List.{AllByRecursion, find, list_any}
 
@@ -48,8 +48,3 @@ not_kept p f (x ∷ xs) e =
       | true ↦ λ _ e. let parts = or_parts (f x) (list_any f (filter p xs)) e in ((λ _. parts.0), not_kept p f xs parts.1)
       | false ↦ λ is e. ((λ h. absurd (false≢true (sym is ∙ h))), not_kept p f xs e)
     ] refl e
-
--- a test of what a map makes
-pub any_map : {X Y : Type 0} (f : Y → Bool) (g : X → Y) (xs : List X) → list_any f (map g xs) ≡ list_any (λ x. f (g x)) xs
-any_map f g [] = refl
-any_map f g (x ∷ xs) = ap (λ b. f (g x) || b) (any_map f g xs)

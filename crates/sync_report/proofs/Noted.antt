@@ -34,8 +34,8 @@ use Rattle.run_entries.specs.Naming.{copy_notes, copy_whys, notes_by, on_side, r
 use Rattle.sync_report.specs.PrivateSteps.{IsReady, MakesEqual}
 use Rattle.sync_report.specs.Syncing.{AreEqualBut, dest_notes, entry_notes, is_named, path_notes, says_absent, says_gone, sync_failures}
 use Rattle.sync_report.proofs.Below.{apart}
-use Rattle.sync_report.proofs.Lists.{any_map}
 use Rattle.tree_walk.proofs.Lists.{both}
+use Rattle.tree_cmp.proofs.Lists.{list_any-map}
 
 -- ---- members
 
@@ -193,14 +193,14 @@ module _ (pair : Pair) (source dest : List Entry) (tree : Option Files) (r : IsR
       f (record { path = e.path; why = w; dest = false }) ≡ true) →
       list_any (is_within p) (noted (side top list)) ≡ true → list_any f (entry_notes list) ≡ true
   of_list f top list shaped within passes e =
-      any_map f (on_side false) (notes_of list)
+      list_any-map f (on_side false) (notes_of list)
       ∙ any_hit (λ n. f (on_side false n)) is_noted (λ (e : Entry). is_within p (below_of e.path top)) (λ (e : Entry). e.path) whys_of list
       (all_weaker (λ e. (is_shaped e ≡ true) × IsTrue (is_within e.path top))
       (λ e. is_noted e ≡ true → is_within p (below_of e.path top) ≡ true → IsHit (λ n. f (on_side false n)) e.path (whys_of e))
       (λ e h n o. let why = reason e h.0 n in record { why = why; passes = passes e why.first h.1 why.there o }) list
       (both (λ e. is_shaped e ≡ true) (λ e. IsTrue (is_within e.path top)) list (recursion_from_All (λ (e : Entry). is_shaped e ≡ true) list shaped)
       (recursion_from_All (λ (e : Entry). IsTrue (is_within e.path top)) list within)))
-      (sym (any_map (is_within p) (λ (e : Entry). below_of e.path top) (filter is_noted list)) ∙ e)
+      (sym (list_any-map (is_within p) (λ (e : Entry). below_of e.path top) (filter is_noted list)) ∙ e)
 
   of_source : list_any (is_within p) (noted (side pair.source source)) ≡ true → list_any is_over (entry_notes source) ≡ true
   of_source =
@@ -214,13 +214,13 @@ module _ (pair : Pair) (source dest : List Entry) (tree : Option Files) (r : IsR
       (ap (λ b. not (b && pointwise nat_eq e.path pair.target)) there) (ap (is_within p) (below_dest e.path on) ∙ o)) h)
 
   of_paths : (w : Why) (qs : List (List ℕ)) → list_any over_path qs ≡ true → list_any is_over (path_notes w qs) ≡ true
-  of_paths w qs h = any_map is_over (λ q. record { path = q; why = w; dest = false }) qs ∙ h
+  of_paths w qs h = list_any-map is_over (λ q. record { path = q; why = w; dest = false }) qs ∙ h
 
   of_rows : (whys : Fate → List Why) → ((f : Fate) → not (is_done f) ≡ true → Reason (whys f)) → (rows : List Row) →
       list_any over_path (undone rows) ≡ true → list_any is_over (flat_map (λ (row : Row). notes_by row.0 (whys row.1)) rows) ≡ true
   of_rows whys reasons rows h =
       any_hit is_over (λ (row : Row). not (is_done row.1)) (λ (row : Row). over_path row.0) (λ (row : Row). row.0) (λ (row : Row). whys row.1) rows
-      (each rows) (sym (any_map over_path (λ (row : Row). row.0) (filter (λ (row : Row). not (is_done row.1)) rows)) ∙ h)
+      (each rows) (sym (list_any-map over_path (λ (row : Row). row.0) (filter (λ (row : Row). not (is_done row.1)) rows)) ∙ h)
     where
       each : (rows : List Row) → AllByRecursion (λ row. not (is_done row.1) ≡ true → over_path row.0 ≡ true → IsHit is_over row.0 (whys row.1)) rows
       each [] = tt
@@ -237,7 +237,8 @@ module _ (pair : Pair) (source dest : List Entry) (tree : Option Files) (r : IsR
       (λ c. in_left is_over (before ++ copied) (removal_notes done.removals) (in_right is_over before copied (of_rows copy_whys copy_reason done.copies c)))
       (either over_path (done.failed ++ done.changed) (undone done.copies) h))
       (λ c. in_right is_over (before ++ copied) (removal_notes done.removals) (of_rows removal_whys removal_reason done.removals c))
-      (either over_path (done.failed ++ done.changed ++ undone done.copies) (undone done.removals) (sym (any_map (is_within p) (below_top pair) results) ∙ h)))
+      (either over_path (done.failed ++ done.changed ++ undone done.copies) (undone done.removals)
+          (sym (list_any-map (is_within p) (below_top pair) results) ∙ h)))
       (either (is_within p) (noted (side pair.source source) ++ noted (side pair.target dest)) (map (below_top pair) results) h)
     where
       lists : List Note

@@ -13,7 +13,6 @@ use Rattle.path_text.specs.Order.{is_under, is_within}
 use Rattle.path_text.specs.Path.{refusal}
 use Rattle.path_text.proofs.Parts.{graft_undoes_below}
 use Rattle.outside.specs.Tree.{Files, Node, kind_of, stat_of}
-use Rattle.outside.specs.declared.trees.Kind.{Kind}
 use Rattle.outside.specs.declared.trees.Kind.TheVariants as kind
 use Rattle.outside.proofs.Names.{all_weaker}
 use Rattle.entry_pages.specs.declared.entries.Entry.{Entry}
@@ -28,21 +27,6 @@ use Rattle.tree_walk.specs.Walk.{WalkListsAll, all_told, entry_of, told}
 use Rattle.tree_walk.proofs.Lists.{both}
 use Rattle.sync_report.proofs.Lists.{none_any, passing}
 use Rattle.sync_report.proofs.Walked.{IsWalk, at_path, each, whole_by_all}
-
--- ---- kinds
-
-pub kind_is : (k l : Kind) → is_kind k l ≡ true → k ≡ l
-kind_is kind.File kind.File e = refl
-kind_is kind.Dir kind.Dir e = refl
-kind_is kind.Link kind.Link e = refl
-kind_is kind.Other kind.Other e = refl
-kind_is k l e = absurd (false≢true e)
-
-pub own_kind : (k : Kind) → is_kind k k ≡ true
-own_kind kind.File = refl
-own_kind kind.Dir = refl
-own_kind kind.Link = refl
-own_kind kind.Other = refl
 
 -- ---- one walk
 

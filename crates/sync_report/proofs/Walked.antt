@@ -6,7 +6,6 @@ use Rattle.std.proofs.lemmas.List.Elements.{recursion_from_All}
 use Rattle.std.specs.Prelude.{Bool, IsTrue, is_some, ◌==◌}
 use Rattle.std.specs.FinMap.{get}
 use Rattle.std.specs.List.{All, AllByRecursion, list_any}
-use Rattle.std.specs.Option.{option_map}
 use Rattle.std.specs.Cmp.Lexicographic.{pointwise, bytes_decides}
 use Rattle.path_text.specs.Graft.{below_of, grafted}
 use Rattle.path_text.specs.Order.{is_under, is_within}
@@ -14,7 +13,7 @@ use Rattle.path_text.specs.Path.{parent_of, refusal}
 use Rattle.path_text.proofs.Moved.{below_undoes_graft}
 use Rattle.path_text.proofs.Parts.{graft_undoes_below}
 use Rattle.path_text.proofs.Within.{itself}
-use Rattle.outside.specs.Tree.{Files, IsTree, Node, is_root, link_at, stat_of}
+use Rattle.outside.specs.Tree.{Files, IsTree, Node, is_root, link_at}
 use Rattle.outside.specs.declared.trees.Kind.TheVariants as kind
 use Rattle.outside.specs.declared.trees.Stat.{Stat}
 use Rattle.outside.proofs.Names.{all_weaker}
@@ -31,7 +30,9 @@ use Rattle.tree_walk.specs.Told.{EntriesAreTold, EntriesHaveParents, IsTold, Sta
 use Rattle.tree_walk.specs.Walk.{Answers, WalkListsAll, all_told, answer_by, answer_in, answers_in, entry_of, is_told, told, walk}
 use Rattle.tree_walk.proofs.Lists.{both}
 use Rattle.sync_report.proofs.Below.{within_below}
-use Rattle.sync_report.proofs.Lists.{any_map, any_other, not_kept, passing}
+use Rattle.sync_report.proofs.Lists.{any_other, not_kept, passing}
+use Rattle.run_entries.proofs.Sided.{stat_told}
+use Rattle.tree_cmp.proofs.Lists.{list_any-map}
 
 -- the list is the walk of a tree from a top that is not `/`
 pub record IsWalk (files : Files) (a : Answers) (top : List ℕ) (list : List Entry) : Type 0 where
@@ -51,11 +52,6 @@ module _ (law : EntriesAreTold) (files : Files) (a : Answers) (top : List ℕ) (
       (recursion_from_All (λ (e : Entry). IsTrue (is_within e.path top)) list w.is_side.within)
 
 -- ---- the entries tell what stands in the tree
-
-stat_told : (m : Mark) (found : Option Node) (said : Option Stat) → said ≡ stat_by m found → IfSome said (λ stat. option_map stat_of found ≡ Some stat)
-stat_told m found None e = tt
-stat_told mark.StatFailed found (Some stat) e = absurd (cc)
-stat_told m found (Some stat) e = sym e
 
 text_told : (m : Mark) (found : Option Node) (said : Option (List ℕ)) → said ≡ target_by m found → IfSome said (λ text. link_at found ≡ Some text)
 text_told m found None e = tt
@@ -135,7 +131,7 @@ has_stat files a top p list v some each fine listed =
     (any_other (λ (e : Entry). pointwise nat_eq (grafted top p) e.path) (at_path top p) list
     (all_weaker (λ e. (IsTold files a e × IsTrue (is_within e.path top)) × (e.path ≡ grafted top p → e.mark ≢ mark.StatFailed))
     (λ (e : Entry). pointwise nat_eq (grafted top p) e.path ≡ true → at_path top p e ≡ true) is_at list known)
-    (sym (any_map (pointwise nat_eq (grafted top p)) (λ (e : Entry). e.path) list) ∙ listed)) in
+    (sym (list_any-map (pointwise nat_eq (grafted top p)) (λ (e : Entry). e.path) list) ∙ listed)) in
     ap (λ o. is_some (stat_at o)) one.found ∙ one.holds one.passes
   where
     stands : (e : Entry) → (IsTold files a e × IsTrue (is_within e.path top)) × (e.path ≡ grafted top p → e.mark ≢ mark.StatFailed) →
@@ -166,7 +162,7 @@ IsOff top p e = is_noted e ≡ true → is_within p (below_of e.path top) ≡ fa
 all_off : (top p : List ℕ) (list : List Entry) → is_under_some (noted (side top list)) p ≡ false → AllByRecursion (IsOff top p) list
 all_off top p list off =
     not_kept is_noted (λ (e : Entry). is_within p (below_of e.path top)) list
-    (sym (any_map (is_within p) (λ (e : Entry). below_of e.path top) (filter is_noted list)) ∙ off)
+    (sym (list_any-map (is_within p) (λ (e : Entry). below_of e.path top) (filter is_noted list)) ∙ off)
 
 noted_fails : (e : Entry) (m : Mark) → e.mark ≡ m → is_gone m ≡ false → is_fine m ≡ false → is_noted e ≡ true
 noted_fails e m is gone off =

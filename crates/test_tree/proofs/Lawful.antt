@@ -8,20 +8,20 @@ use Rattle.std.specs.Ordering.{eq_by_cmp}
 use Rattle.std.specs.Cmp.Lexicographic.{bytes_decides}
 use Rattle.std.specs.FinMap.{get, len, insert, empty, get-empty, len-empty, len-insert}
 use Rattle.std.specs.FinMap.Entries.{find}
-use Rattle.std.proofs.lemmas.Bool.{false≢true}
+use Rattle.std.proofs.lemmas.Bool.{false≢true, and_from, or_right}
 use Rattle.std.proofs.lemmas.Fmt.{decimal_digit}
 use Rattle.path_text.specs.Order.{path_cmp}
 use Rattle.path_text.specs.Path.{joined, refusal, parent_of}
-use Rattle.path_text.specs.Total.{path_cmp_total, path_cmp_ties}
+use Rattle.path_text.specs.Total.{path_cmp_total}
 use Rattle.outside.specs.Tree.{Files, Node, dir, file, is_dir, is_root, far_of, far_at, IsTree}
 use Rattle.outside.specs.Writes.{empty_dir}
-use Rattle.files_mem.proofs.Treed.{or_right, both}
 use Rattle.test_tree.specs.Nodes.{path_of, node_of, test_files}
 use Rattle.test_tree.specs.Made.{first_files}
 use Rattle.test_tree.specs.Laws.{FirstNodeIsThere, TestFilesAreTree, NoChildIsFar, NodesAreCounted}
 use Rattle.test_tree.proofs.Placed.{path_of-zero, parent_of-path}
 use Rattle.test_tree.proofs.Valid.{path_valid}
 use Rattle.test_tree.proofs.Filled.{entry, get_first, behind_root, first_at, first_all, first_none, next_none, over_dir, root_dir, grown}
+use Rattle.files_mem.proofs.Treed.{same_path}
 
 -- what is at a path
 
@@ -83,9 +83,6 @@ record IsNode (n : ℕ) (q : List ℕ) : Type 0 where
   below : number < n
   is : q ≡ path_of number
 
-same_path : (q p : List ℕ) → eq_by_cmp path_cmp q p ≡ true → q ≡ p
-same_path q p e = (bytes_decides q p).0 (path_cmp_ties q p ∙ e)
-
 among : (n a m : ℕ) (q : List ℕ) → (find path_cmp q (map (entry n) (range_with_len a m)) ≡ None) ⊎ IsNode (a + m) q
 among n a zero q = inl refl
 among n a (suc m) q =
@@ -105,7 +102,7 @@ no_root q off e = false≢true (sym off ∙ (bytes_decides q (47 ∷ [])).1 e)
 placed : (n : ℕ) (q : List ℕ) → n ≤ 1000000 → IsNode n q → (is_none (refusal q) && is_dir (get (test_files n) (parent_of q))) ≡ true
 placed n q h node =
     let below = node.below in
-    both (is_none (refusal q)) (is_dir (get (test_files n) (parent_of q)))
+    and_from (is_none (refusal q)) (is_dir (get (test_files n) (parent_of q)))
     (ap (λ p. is_none (refusal p)) node.is ∙ ap is_none (path_valid node.number (omega arith)))
     (ap (λ p. is_dir (get (test_files n) (parent_of p))) node.is ∙ ap (λ p. is_dir (get (test_files n) p)) (parent_of-path node.number (omega arith))
     ∙ ap is_dir (get_made n _) ∙ over_dir n n node.number below (omega arith) (omega arith))

@@ -20,6 +20,8 @@ use Rattle.tool_text.specs.Notes.{mark_whys, whys_of, entry_notes, notes_of}
 use Rattle.tool_text.specs.NoteOrder.{why_cmp, note_cmp, AreInOrder, NotesStandInOrder, OrderIsUnique, NothingToOrder}
 use Rattle.tool_text.proofs.NotesCompared.{note_total, only_same}
 use Rattle.tool_text.proofs.Ascending.{first_in, none_in, fixed_by_elements}
+use Rattle.flat_list.proofs.Pieces.{all_join}
+use Rattle.outside.proofs.Names.{all_weaker}
 
 -- after a sort and without doubles
 pub sorted_once : (given sorted notes : List Note) →
@@ -31,15 +33,6 @@ sorted_once given sorted notes moved up is = rw is record {
     λ h. Contains-permutation sorted given n (IsPermutation-sym given sorted moved) (Contains-from_dedup (eq_by_cmp note_cmp) sorted n h),
   );
 }
-
-module _ {X : Type 0} where
-  all_more : (P : X → Type 0) (xs ys : List X) → AllByRecursion P xs → AllByRecursion P ys → AllByRecursion P (xs ++ ys)
-  all_more P [] ys h k = k
-  all_more P (x ∷ xs) ys h k = (h.0, all_more P xs ys h.1 k)
-
-  all_weaker : (P Q : X → Type 0) → ((x : X) → P x → Q x) → (xs : List X) → AllByRecursion P xs → AllByRecursion Q xs
-  all_weaker P Q f [] h = tt
-  all_weaker P Q f (x ∷ xs) h = (f x h.0, all_weaker P Q f xs h.1)
 
 -- the reasons that tell a number, each where it is not left out
 abbrev told : (unnamed_none far_none : Bool) → ℕ → ℕ → List Why → List Why
@@ -95,7 +88,7 @@ joined_ascend : (path : List ℕ) (ws : List Why) (notes : List Note) →
 unfolding IsStrictlySortedBy
 joined_ascend path [] notes s behind t = t
 joined_ascend path (w ∷ ws) notes s behind t = (
-  all_more (λ n. note_cmp (note_at path w) n ≡ Less) (map (note_at path) ws) notes
+  all_join (λ n. note_cmp (note_at path w) n ≡ Less) (map (note_at path) ws) notes
       (below_same path w ws s.0)
       (all_weaker _ _ (λ n h. other_path (note_at path w) n h) notes behind),
   joined_ascend path ws notes s.1 behind t,
@@ -109,7 +102,7 @@ notes_behind : (path : List ℕ) (entries : List Entry) →
     AllByRecursion (λ p. path_cmp path p ≡ Less) (map (λ e. e.path) entries) → AllBehind path (notes_of entries)
 notes_behind path [] h = tt
 notes_behind path (e ∷ entries) h =
-    all_more (λ n. path_cmp path n.path ≡ Less) (entry_notes e) (notes_of entries)
+    all_join (λ n. path_cmp path n.path ≡ Less) (entry_notes e) (notes_of entries)
     (notes_of_later path e.path h.0 (whys_of e))
     (notes_behind path entries h.1)
 

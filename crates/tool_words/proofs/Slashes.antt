@@ -8,19 +8,17 @@ use Rattle.std.proofs.lemmas.Str.Pattern.{drop_at_char, strip_suffix_char}
 use Rattle.std.proofs.lemmas.Bool.Decides.{nat_tests}
 use Rattle.path_text.specs.Path.{is_slash}
 use Rattle.tool_words.specs.Value.{before_end_slashes}
+use Rattle.path_text.proofs.Parents.{slash_is}
 
 one_more : (text : List ℕ) → before_end_slashes (text ++ 47 ∷ []) ≡ before_end_slashes text
 one_more [] = refl
 one_more (b ∷ text) = ap (λ r. cond (is_slash b && length r == 0) [] (b ∷ r)) (one_more text)
 
-the_slash : (b : ℕ) → is_slash b ≡ true → b ≡ 47
-the_slash b e = grind (arith, nat_tests)
-
 -- the first byte stays where more stands behind it, or where it is no slash
 stays : (b : ℕ) (text : List ℕ) → ((front : List ℕ) → b ∷ text ≢ front ++ 47 ∷ []) → cond (is_slash b && length text == 0) [] (b ∷ text) ≡ b ∷ text
 stays b [] h =
     elim (is_slash b) as (λ t. is_slash b ≡ t → cond (t && true) [] (b ∷ []) ≡ b ∷ []) [
-      | true ↦ λ e. absurd (h [] (ap (λ c. c ∷ []) (the_slash b e)))
+      | true ↦ λ e. absurd (h [] (ap (λ c. c ∷ []) (slash_is b e)))
       | false ↦ λ e. refl
     ] refl
 stays b (c ∷ text) h =

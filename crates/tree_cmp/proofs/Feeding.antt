@@ -10,6 +10,7 @@ use Rattle.tree_cmp.specs.declared.items.Feed.{Feed}
 use Rattle.tree_cmp.specs.Sides.{is_gone}
 use Rattle.tree_cmp.specs.Private.Items.{items_of, item_of}
 use Rattle.tree_cmp.specs.Private.Steps.{IsCurrent}
+use Rattle.flat_list.proofs.Turns.{step_more}
 
 drop_at : (es : List Entry) (n : ℕ) (e : Entry) → slice_get es n ≡ Some e → drop n es ≡ e ∷ drop (suc n) es
 drop_at [] n e h = cc
@@ -40,19 +41,16 @@ there top es n m e x k h g y =
 pub passed_0 : (old new : List Entry × ℕ) (t : Bool) → new ≡ (old.0, if t then old.1 + 1 else old.1) → new.0 ≡ old.0
 passed_0 old new t h = ap (λ (p : List Entry × ℕ). p.0) h
 
-passed_1 : (old new : List Entry × ℕ) (t : Bool) → new ≡ (old.0, if t then old.1 + 1 else old.1) → t ≡ true → new.1 ≡ old.1 + 1
-passed_1 old new t h g = ap (λ (p : List Entry × ℕ). p.1) h ∙ (λ i. cond (g i) (old.1 + 1) old.1)
-
 pub gave : (top : List ℕ) (old new : List Entry × ℕ) (t : Bool) (e : Entry) (x : Item) → new ≡ (old.0, if t then old.1 + 1 else old.1)
     → t ≡ true → slice_get new.0 (new.1 - 1) ≡ Some e → is_gone e.mark ≡ false → x ≡ item_of top e →
     items_of top (drop old.1 old.0) ≡ x ∷ items_of top (drop new.1 new.0)
 gave top old new t e x h g s m y = (λ i. items_of top (drop old.1 (sym (passed_0 old new t h) i)))
-    ∙ there top new.0 old.1 new.1 e x (passed_1 old new t h g) s m y
+    ∙ there top new.0 old.1 new.1 e x (step_more old new t h g) s m y
 
 pub passed_gone : (top : List ℕ) (old new : List Entry × ℕ) (t : Bool) (e : Entry) → new ≡ (old.0, if t then old.1 + 1 else old.1)
     → t ≡ true → slice_get new.0 (new.1 - 1) ≡ Some e → is_gone e.mark ≡ true →
     items_of top (drop new.1 new.0) ≡ items_of top (drop old.1 old.0)
-passed_gone top old new t e h g s m = gone top new.0 old.1 new.1 e (passed_1 old new t h g) s m ∙ (λ i. items_of top (drop old.1 (passed_0 old new t h i)))
+passed_gone top old new t e h g s m = gone top new.0 old.1 new.1 e (step_more old new t h g) s m ∙ (λ i. items_of top (drop old.1 (passed_0 old new t h i)))
 
 pub within_still : (P : Entry → Type 0) (old new : List Entry × ℕ) (t : Bool) → new ≡ (old.0, if t then old.1 + 1 else old.1) → All P old.0 → All P new.0
 within_still P old new t h g = subst (All P) (sym (passed_0 old new t h)) g
@@ -66,4 +64,4 @@ is_current f e x at here is = record {
 }
 
 pub begun : (old new : List Entry × ℕ) (t : Bool) → new ≡ (old.0, if t then old.1 + 1 else old.1) → t ≡ true → 0 < new.1
-begun old new t h g = omega (arith, passed_1 old new t h g)
+begun old new t h g = omega (arith, step_more old new t h g)

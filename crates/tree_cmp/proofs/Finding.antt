@@ -34,10 +34,11 @@ use Rattle.tree_cmp.specs.Private.Reading.{Told}
 use Rattle.tree_cmp.specs.Private.Sharing.{ToldAt, IsOf, IsSettled, unsettled}
 use Rattle.tree_cmp.specs.Private.Parts.{row_by, side_missed, missed_at, missed_by, findings_of}
 use Rattle.tree_cmp.proofs.Sided.{some-items, stat-items, shown-items}
-use Rattle.tree_cmp.proofs.Under.{not_itself, not_true}
 use Rattle.tree_cmp.proofs.Taken.{rows_there}
 use Rattle.tree_cmp.proofs.OneRow.{Stands, stands, file_at, AreRead, are_read, AreEntries, are_entries}
 use Rattle.tree_cmp.proofs.OneRow.{gave_nothing, true_not_false, unread_none, content_row, of_map, side_is, not_both_missed, one_or_other}
+use Rattle.std.proofs.lemmas.Bool.{false_from_ne_true}
+use Rattle.path_text.proofs.Under.{irreflexive}
 
 -- ---- rows as they were
 
@@ -204,10 +205,12 @@ module _ (law : GraftUndoesBelow) {S : Type 0} (gives : Asks S) (tree : Option F
 
     -- a file of another row is not of this one
     other_row : (p q x : List ℕ) → path_cmp p q ≡ Less → x ≡ q → pointwise eqb x p ≡ false
-    other_row p q x less e = not_true (pointwise eqb x p) (λ t. not_itself p (subst (λ z. path_cmp p z ≡ Less) (sym e ∙ (bytes_decides x p).0 t) less))
+    other_row p q x less e = false_from_ne_true (pointwise eqb x p)
+        (λ t. irreflexive p (subst (λ z. path_cmp p z ≡ Less) (sym e ∙ (bytes_decides x p).0 t) less))
 
     earlier_row : (p q x : List ℕ) → path_cmp p q ≡ Less → x ≡ p → pointwise eqb x q ≡ false
-    earlier_row p q x less e = not_true (pointwise eqb x q) (λ t. not_itself q (subst (λ z. path_cmp z q ≡ Less) (sym e ∙ (bytes_decides x q).0 t) less))
+    earlier_row p q x less e = false_from_ne_true (pointwise eqb x q)
+        (λ t. irreflexive q (subst (λ z. path_cmp z q ≡ Less) (sym e ∙ (bytes_decides x q).0 t) less))
 
     none_missed : (p : List ℕ) (ds : List Draft) → AllByRecursion (λ y. path_cmp p y ≡ Less) (paths ds) → Follows f ds
         → is_missed l r (filter_map f ds) p ≡ false

@@ -6,7 +6,7 @@ use Rattle.std.specs.List.Sorted.{IsStrictlySortedBy}
 use Rattle.std.specs.Option.{option_map}
 use Rattle.std.specs.Cmp.Lexicographic.{pointwise}
 use Rattle.std.specs.declared.cmp.Ordering.TheVariants.{Less}
-use Rattle.std.proofs.lemmas.Bool.{false≢true}
+use Rattle.std.proofs.lemmas.Bool.{false≢true, and_right}
 use Rattle.path_text.specs.Order.{path_cmp}
 use Rattle.path_text.specs.Graft.{below_of}
 use Rattle.outside.specs.declared.trees.Kind.TheVariants as kind
@@ -19,7 +19,8 @@ use Rattle.tree_cmp.specs.Sides.{Side, side, is_gone, entry_at}
 use Rattle.tree_cmp.specs.Rows.{target_at, texts, sizes}
 use Rattle.tree_cmp.specs.Private.Items.{item_of, items_of, links_at, content_before, draft_of}
 use Rattle.tree_cmp.specs.Private.Steps.{ahead, Ascend, IsCurrent, current, side_of, path_of, row_after, under_some}
-use Rattle.tree_cmp.proofs.Taken.{differ, is_same, and_false}
+use Rattle.tree_cmp.proofs.Taken.{differ}
+use Rattle.outside.proofs.Saved.{at_itself}
 
 -- what all items have, the entry at a place has, unless it is gone
 item_in : (P : List ℕ → Type 0) (top : List ℕ) (es : List Entry) (k : ℕ) (e : Entry) → AllByRecursion P (map (λ x. x.path) (items_of top es))
@@ -47,7 +48,7 @@ found_at top [] k e a s g = absurd cc
 found_at top (d ∷ es) zero e a s g =
     let same : d ≡ e = cc in
     subst (λ x. entry_at (side top (x ∷ es)) (below_of e.path top) ≡ Some e) (sym same)
-    (λ i. cond (not (g i) && is_same (below_of e.path top) i) (Some e) (entry_at (side top es) (below_of e.path top)))
+    (λ i. cond (not (g i) && at_itself (below_of e.path top) i) (Some e) (entry_at (side top es) (below_of e.path top)))
 found_at top (d ∷ es) (suc k) e a s g =
     elim (is_gone d.mark) as
     (λ b. Ascend (map (item_of top) (cond (not b) (d ∷ filter (λ e. not (is_gone e.mark)) es) (filter (λ e. not (is_gone e.mark)) es)))
@@ -106,7 +107,7 @@ pub row_links : (x y : Two) (h : Option (List ℕ)) (a b : Option Item) → (is_
 row_links x y h None b e = refl
 row_links x y h (Some z) (Some w) e = λ i. row_after (e refl refl i) h (Some z) (Some w)
 row_links x y h (Some z) None e =
-    let none = and_false (is_of kind.Link z.stat) false refl in
+    let none = and_right (is_of kind.Link z.stat) false refl in
     let same : content_before x z.stat None ≡ content_before y z.stat None =
     (λ i. cond (none i) x (sizes z.stat None)) ∙ sym (λ i. cond (none i) y (sizes z.stat None)) in
     let d = draft_of x z.path (Some z) None in

@@ -30,10 +30,7 @@ use Rattle.tree_cmp.specs.Private.Items.{at, to_read}
 use Rattle.tree_cmp.specs.Filling.{IsFileOf}
 use Rattle.tree_cmp.specs.Private.Sharing.{some_counts, blames}
 use Rattle.tree_cmp.specs.Private.Parts.{content_by, side_missed, missed_at, missed_by}
-
-both : (a b : Bool) → (a && b) ≡ true → (a ≡ true) × (b ≡ true)
-both true b e = (refl, e)
-both false b e = absurd (false≢true e)
+use Rattle.path_text.proofs.Told.{both}
 
 -- ---- an entry that is found
 
@@ -96,7 +93,7 @@ pub record AreRead (s t : Option Stat) : Type 0 where
   pub other_file : is_kind kind.File other.kind ≡ true
   pub same : one.size ≡ other.size
 
-same_number : (m n : ℕ) → (m == n) ≡ true → m ≡ n
+pub same_number : (m n : ℕ) → (m == n) ≡ true → m ≡ n
 same_number m n e = grind (arith, nat_tests)
 
 pub are_read : (s t : Option Stat) → is_read s t ≡ true → AreRead s t

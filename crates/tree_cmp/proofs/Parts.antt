@@ -1,20 +1,14 @@
 -- The parts of a text, one after the other.
 use Rattle.std.proofs.Common.{◌≡◌, ℕ, ◌+◌, ◌<◌, ◌≤◌, true, false, List, [], ◌∷◌, ◌++◌, append_assoc, length, take, drop, refl, ap, ◌∙◌}
-use Rattle.std.proofs.Common.{sym, arith, Option, Some, None, Result, Ok, Err, cond, ltb}
+use Rattle.std.proofs.Common.{sym, arith, Option, Some, None, Result, Ok, Err}
 use Rattle.std.specs.Prelude.{Bool}
 use Rattle.std.specs.List.{slice_split, onto_first, position, position_or_len}
 use Rattle.std.specs.Option.{IfSome, IfNone}
 use Rattle.std.proofs.lemmas.List.{length-take-le}
 use Rattle.std.proofs.lemmas.List.Splits.{slice_split_first, slice_split-cons_no}
-use Rattle.std.proofs.lemmas.Bool.Decides.{nat_tests}
 use Rattle.tree_cmp.specs.declared.errors.ExprError.{ExprError}
 use Rattle.tree_cmp.specs.Expressions.{cons_reading}
-
-place : (q n k : ℕ) → cond (ltb q n) (Some q) None ≡ Some k → (q < n) × (q ≡ k)
-place q n k e = grind (arith, nat_tests)
-
-no_place : (q n : ℕ) → cond (ltb q n) (Some q) None ≡ None → n ≤ q
-no_place q n e = grind (arith, nat_tests)
+use Rattle.path_text.proofs.Split.{place, no_place}
 
 module _ (p : ℕ → Bool) where
   split_some : (xs : List ℕ) (k : ℕ) → position p xs ≡ Some k → (k < length xs) × (slice_split p xs ≡ take k xs ∷ slice_split p (drop (k + 1) xs))

@@ -54,7 +54,7 @@ whole side k e new h = ap (λ (p : List Entry × ℕ). p.0) h.moved
 -- ---- the next entry
 
 -- the next one is behind it
-sorted_next : (es : List Entry) (k : ℕ) (d : Entry) → IsStrictlySortedBy path_cmp (paths es) → suc k < length es →
+pub sorted_next : (es : List Entry) (k : ℕ) (d : Entry) → IsStrictlySortedBy path_cmp (paths es) → suc k < length es →
     path_cmp (get_or es k d).path (get_or es (suc k) d).path ≡ Less
 unfolding IsStrictlySortedBy
 sorted_next [] k d s l = absurd (omega (arith, l))

@@ -3,7 +3,7 @@ use Rattle.std.proofs.Common.{◌≡◌, ℕ, ◌+◌, Bool, true, false, not, �
 use Rattle.std.proofs.Common.{◌∙◌, sym, subst, arith, cond, eqb, append-nil, if◌then◌else◌, Option, Some, None, is_some}
 use Rattle.std.specs.List.{AllByRecursion, cons_option}
 use Rattle.std.specs.List.Sorted.{IsStrictlySortedBy}
-use Rattle.std.proofs.lemmas.Bool.{false≢true}
+use Rattle.std.proofs.lemmas.Bool.{false≢true, or_from, and_right, or_right, false_from_ne_true}
 use Rattle.std.specs.Cmp.Lexicographic.{pointwise, bytes_decides}
 use Rattle.std.specs.Ordering.{is_le, is_ge, ordering_reverse}
 use Rattle.std.specs.declared.cmp.Ordering.{Ordering}
@@ -18,20 +18,19 @@ use Rattle.std.proofs.lemmas.List.Elements.{All-from_recursion}
 use Rattle.tree_cmp.specs.Private.Items.{at, is_below_partial, draft_of, paths, AreDrafts}
 use Rattle.tree_cmp.specs.Private.Steps.{Behind, under_some, BehindSome, is_partial_item, shown_from, is_row, From, Heads, order_by, path_of, Ascend}
 use Rattle.tree_cmp.specs.Private.Steps.{Ready, Takes, BeforeSome, hidden_after, row_after}
-use Rattle.tree_cmp.proofs.Under.{not_itself, not_both, not_true, none_later}
+use Rattle.tree_cmp.proofs.Under.{none_later}
+use Rattle.path_text.proofs.Under.{one_way, irreflexive}
+use Rattle.outside.proofs.Saved.{at_itself}
 
-same : (x y : List ℕ) → pointwise eqb x y ≡ true → x ≡ y
+pub same : (x y : List ℕ) → pointwise eqb x y ≡ true → x ≡ y
 same x y e = (bytes_decides x y).0 e
-
-pub is_same : (x : List ℕ) → pointwise eqb x x ≡ true
-is_same x = (bytes_decides x x).1 refl
 
 -- what stands behind a path
 none_at : (p : List ℕ) (items : List Item) → Behind p items → at p items ≡ None
 none_at p [] h = refl
 none_at p (x ∷ items) h =
     let other : pointwise eqb x.path p ≡ false =
-    not_true (pointwise eqb x.path p) (λ e. not_itself p (subst (λ y. path_cmp p y ≡ Less) (same x.path p e) h.0)) in
+    false_from_ne_true (pointwise eqb x.path p) (λ e. irreflexive p (subst (λ y. path_cmp p y ≡ Less) (same x.path p e) h.0)) in
     (λ i. cond (other i) (Some x) (at p items)) ∙ none_at p items h.1
 
 found_behind : (p q : List ℕ) (items : List Item) → Behind p items → is_some (at q items) ≡ true → path_cmp p q ≡ Less
@@ -42,26 +41,18 @@ found_behind p q (x ∷ items) h e =
       | false ↦ λ t e. found_behind p q items h.1 e
     ] refl e
 
--- nothing that stands behind a path hides it
-or_false : (a b : Bool) → a ≡ false → b ≡ false → (a || b) ≡ false
-or_false a b e d = (λ i. e i || b) ∙ d
-
-pub and_false : (a b : Bool) → b ≡ false → (a && b) ≡ false
-and_false true b e = e
-and_false false b e = refl
-
 not_hidden : IsPreorder → (p : List ℕ) (items : List Item) → Behind p items → is_below_partial p items ≡ false
 not_hidden order p [] h = refl
 not_hidden order p (x ∷ items) h =
-    or_false (x.partial && is_under p x.path) (is_below_partial p items)
-    (and_false x.partial (is_under p x.path) (not_true (is_under p x.path) (λ e. not_both p x.path h.0 (order.top_down p x.path e))))
+    or_from (x.partial && is_under p x.path) (is_below_partial p items)
+    (and_right x.partial (is_under p x.path) (false_from_ne_true (is_under p x.path) (λ e. one_way p x.path h.0 (order.top_down p x.path e))))
     (not_hidden order p items h.1)
 
 -- what a side has at the path, and at another
 at_here : (p : List ℕ) (items : List Item) (a : Option Item) (rest : List Item) → Heads p items a rest → at p items ≡ a
 at_here p items None rest h = ap (at p) h.are ∙ none_at p rest h.behind
 at_here p items (Some x) rest h = ap (at p) h.are ∙ (λ i. cond (pointwise eqb (h.path x refl i) p) (Some x) (at p rest))
-    ∙ (λ i. cond (is_same p i) (Some x) (at p rest))
+    ∙ (λ i. cond (at_itself p i) (Some x) (at p rest))
 
 at_other : (p q : List ℕ) (items : List Item) (a : Option Item) (rest : List Item) → Heads p items a rest → pointwise eqb p q ≡ false → at q items ≡ at q rest
 at_other p q items None rest h e = ap (at q) h.are
@@ -76,10 +67,10 @@ hidden_by p q items (Some x) rest h = ap (is_below_partial q) h.are ∙ (λ i. (
 
 -- two that differ
 pub differ : (p q : List ℕ) → path_cmp p q ≡ Less → pointwise eqb p q ≡ false
-differ p q l = not_true (pointwise eqb p q) (λ e. not_itself p (subst (λ y. path_cmp p y ≡ Less) (sym (same p q e)) l))
+differ p q l = false_from_ne_true (pointwise eqb p q) (λ e. irreflexive p (subst (λ y. path_cmp p y ≡ Less) (sym (same p q e)) l))
 
 not_under_itself : IsPreorder → (p : List ℕ) → is_under p p ≡ false
-not_under_itself order p = not_true (is_under p p) (λ e. not_itself p (order.top_down p p e))
+not_under_itself order p = false_from_ne_true (is_under p p) (λ e. irreflexive p (order.top_down p p e))
 
 first_of_and : (a b : Bool) → true ≡ (a && b) → a ≡ true
 first_of_and true b e = refl
@@ -89,15 +80,11 @@ weaker : (P Q : Draft → Type 0) → ((d : Draft) → P d → Q d) → (ds : Li
 weaker P Q g [] h = tt
 weaker P Q g (d ∷ ds) h = (g d h.0, weaker P Q g ds h.1)
 
-or_right : (a b : Bool) → b ≡ true → (a || b) ≡ true
-or_right true b e = refl
-or_right false b e = e
-
 -- each row's path is a row
 pub rows_there : (ds : List Draft) → AllByRecursion (λ d. is_row d.row.path ds ≡ true) ds
 rows_there [] = tt
 rows_there (d ∷ ds) = (
-  (λ i. is_same d.row.path i || is_row d.row.path ds),
+  (λ i. at_itself d.row.path i || is_row d.row.path ds),
   weaker (λ e. is_row e.row.path ds ≡ true) (λ e. is_row e.row.path (d ∷ ds) ≡ true)
       (λ e h. or_right (pointwise eqb d.row.path e.row.path) (is_row e.row.path ds) h) ds (rows_there ds),
 )
@@ -143,9 +130,9 @@ module _ (order : IsPreorder) (contiguous : UnderIsContiguous) (links : List ℕ
       let al = at_here p l a l' left in
       let ar = at_here p r b r' right in
       let hl : is_below_partial p l ≡ false = hidden_by p p l a l' left
-      ∙ or_false _ _ (and_false (is_partial_item a) (is_under p p) (not_under_itself order p)) (not_hidden order p l' left.behind) in
+      ∙ or_from _ _ (and_right (is_partial_item a) (is_under p p) (not_under_itself order p)) (not_hidden order p l' left.behind) in
       let hr : is_below_partial p r ≡ false = hidden_by p p r b r' right
-      ∙ or_false _ _ (and_false (is_partial_item b) (is_under p p) (not_under_itself order p)) (not_hidden order p r' right.behind) in
+      ∙ or_from _ _ (and_right (is_partial_item b) (is_under p p) (not_under_itself order p)) (not_hidden order p r' right.behind) in
       (λ i. (is_some (al i) || is_some (ar i)) && not (hl i || (hr i || u i))) ∙ (λ i. s i && true)
 
   -- at another path

@@ -18,8 +18,8 @@ use Rattle.tree_copy.specs.declared.pairs.Pair.{Pair}
 use Rattle.level_work.specs.Counts.{is_done}
 use Rattle.tree_copy.specs.Copying.{IsEarly, early, is_tried, is_untold, parent_failed, target_of}
 use Rattle.tree_copy.specs.PrivateSettling.{any_odd, fates_of, has_room, is_odd, is_other, item_of, settled, settled_by}
-use Rattle.tree_copy.proofs.Ends.{same_some}
 use Rattle.tree_copy.proofs.Fits.{no_room_of, other_path, room_of}
+use Rattle.level_work.proofs.Working.{same_some}
 
 -- the items by marks that say which entries have one
 abbrev pub items_by : List Pair → List Bool → List Entry → List Item
@@ -202,7 +202,7 @@ early_by too failed other = cond too (Some fate.TooLong) (cond failed (Some fate
 over : (n : ℕ) → 4095 < n → nat_lt 4095 n ≡ true
 over n l = grind (arith, nat_tests)
 
-within : (n : ℕ) → n ≤ 4095 → nat_lt 4095 n ≡ false
+pub within : (n : ℕ) → n ≤ 4095 → nat_lt 4095 n ≡ false
 within n l = grind (arith, nat_tests)
 
 settled_under : (b : Bool) → settled_by b fate.ParentFailed ≡ fate.ParentFailed

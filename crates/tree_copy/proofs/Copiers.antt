@@ -17,7 +17,8 @@ use Rattle.level_work.specs.declared.items.Fate.TheVariants as fate
 use Rattle.level_work.specs.Counts.{is_done}
 use Rattle.tree_copy.specs.PrivateActs.{ByReader, Filled, IsDirMade, IsFilled, IsPlaced, Placed, Spared}
 use Rattle.tree_copy.specs.PrivateDeeds.{CopyKind, CopyLink, CopyOne, CopyTold, Differ, LinkBy, MakeDir, MakeFile, is_link}
-use Rattle.tree_copy.proofs.Puts.{get_here, mapped}
+use Rattle.tree_copy.proofs.Puts.{mapped}
+use Rattle.level_work.proofs.Frames.{get_here}
 
 pub done_is : (f : Fate) → is_done f ≡ true → f ≡ fate.Done
 done_is fate.Done e = refl

@@ -1,17 +1,15 @@
 -- Work from the top down by copiers copies: each entry has the fate that is due, and its target what that fate says.
 use Rattle.std.proofs.Common.{◌≡◌, ◌≢◌, ◌⊎◌, inl, inr, ℕ, ◌<◌, Bool, true, false, not, cond, ◌&&◌, List, [], ◌∷◌, length}
 use Rattle.std.proofs.Common.{take, Option, Some, None}
-use Rattle.std.proofs.Common.{IfSome, refl, ap, ◌∙◌, sym, subst, arith, nat_eq, is_some}
+use Rattle.std.proofs.Common.{IfSome, refl, ap, ◌∙◌, sym, subst, arith, is_some}
 use Rattle.std.specs.Prelude.{is_none}
 use Rattle.std.proofs.lemmas.Bool.{false≢true}
 use Rattle.std.proofs.lemmas.List.{take_all}
 use Rattle.std.proofs.lemmas.List.Elements.{All-from_recursion, recursion_from_All}
-use Rattle.std.specs.FinMap.{get, insert, get-insert, get-remove, get-retain_keys}
+use Rattle.std.specs.FinMap.{get, get-insert, get-remove}
 use Rattle.std.specs.List.{AllByRecursion, zip}
 use Rattle.std.specs.Option.{option_map}
-use Rattle.std.specs.Cmp.Lexicographic.{pointwise, bytes_decides}
-use Rattle.path_text.specs.Order.{is_within}
-use Rattle.path_text.specs.Total.{path_cmp_total, path_cmp_ties, path_cmp_same}
+use Rattle.path_text.specs.Total.{path_cmp_total, path_cmp_ties}
 use Rattle.outside.specs.Tree.{Files, Node, Body, dir, file, link, other, is_dir, is_dir_body, is_file, is_file_body, kind_of, content, link_at}
 use Rattle.outside.specs.Tree.{stat_of, text_of}
 use Rattle.outside.specs.Writes.{empty_dir, new_file, new_link}
@@ -32,26 +30,17 @@ use Rattle.tree_copy.specs.Copying.{or_else, target_of, treated}
 use Rattle.tree_copy.specs.PrivateDeeds.{CopyKind, CopyOne, CopyTold, Differ, LeaveLink, LinkBy, MakeDir, MakeFile, MakeLink, PassOver, is_link}
 use Rattle.tree_copy.specs.PrivateSettling.{is_other, item_of, items_of, settled, settled_by}
 use Rattle.tree_copy.proofs.Comes.{Comes, Row, long, skipped_by, tried, under}
-use Rattle.path_text.proofs.Within.{itself}
-use Rattle.tree_copy.proofs.Ends.{same_some}
 use Rattle.tree_copy.proofs.Fits.{far_no_item, no_item, no_room_of}
+use Rattle.level_work.proofs.Frames.{get_here}
+use Rattle.outside.proofs.Saved.{at_itself}
+use Rattle.tree_copy.proofs.Puts.{put_here}
+use Rattle.level_work.proofs.Working.{same_some}
 
 -- what an item finds and leaves at its path
 
-get_here : (p : List ℕ) (files : Files) → get (at_and_under p files) p ≡ get files p
-get_here p files =
-    get-retain_keys files (λ q. is_within q p) p (λ x e. ap (λ y. is_within y p) (sym (path_cmp_same p x e)))
-    ∙ ap (λ b. cond b (get files p) None) (itself p)
-
-same_path : (p : List ℕ) → pointwise nat_eq p p ≡ true
-same_path p = (bytes_decides p p).1 refl
-
 get_with : (p : List ℕ) (o : Option Node) (files : Files) → get (with_at p o files) p ≡ o
-get_with p None files = get-remove path_cmp_total files p p ∙ ap (λ b. cond b None (get files p)) (sym (path_cmp_ties p p) ∙ same_path p)
-get_with p (Some n) files = get-insert path_cmp_total files p n p ∙ ap (λ b. cond b (Some n) (get files p)) (sym (path_cmp_ties p p) ∙ same_path p)
-
-put_here : (p : List ℕ) (n : Node) (files : Files) → get (insert files p n) p ≡ Some n
-put_here p n files = get-insert path_cmp_total files p n p ∙ ap (λ b. cond b (Some n) (get files p)) (sym (path_cmp_ties p p) ∙ same_path p)
+get_with p None files = get-remove path_cmp_total files p p ∙ ap (λ b. cond b None (get files p)) (sym (path_cmp_ties p p) ∙ at_itself p)
+get_with p (Some n) files = get-insert path_cmp_total files p n p ∙ ap (λ b. cond b (Some n) (get files p)) (sym (path_cmp_ties p p) ∙ at_itself p)
 
 left_here : (p : List ℕ) (before after : Files) → get (left order.TopDown p before after) p ≡ get after p
 left_here p before after = get_with p (get after p) (at_and_under p before)

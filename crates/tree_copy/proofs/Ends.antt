@@ -19,6 +19,7 @@ use Rattle.outside.specs.Tree.{is_root}
 use Rattle.tree_copy.specs.declared.pairs.Pair.{Pair}
 use Rattle.tree_copy.specs.Copying.{ends_of, target_of}
 use Rattle.tree_copy.specs.Placing.{IsPair, overlap}
+use Rattle.level_work.proofs.Working.{same_some}
 
 -- tests
 
@@ -26,9 +27,6 @@ turned_or : (a b : Bool) → (a || b) ≡ false → (b || a) ≡ false
 turned_or true b e = absurd (false≢true (sym e))
 turned_or false true e = absurd (false≢true (sym e))
 turned_or false false e = refl
-
-pub same_some : {X : Type 0} (a b : X) → Some a ≡ Some b → a ≡ b
-same_some a b e = cc
 
 pub at_of : {X : Type 0} (P : X → Type 0) (xs : List X) → AllByRecursion P xs → (k : ℕ) (x : X) → slice_get xs k ≡ Some x → P x
 at_of P [] h zero x e = cc

@@ -1,9 +1,8 @@
 -- Where nothing stands against the copy of any entry, and none failed, every entry comes to `Done`.
 use Rattle.std.proofs.Common.{◌≡◌, ◌⊎◌, inl, inr, ⊎_elim, ℕ, zero, suc, ◌+◌, ◌-◌, ◌<◌, ◌≤◌, true, false, not, cond, ◌||◌, ◌&&◌, List, []}
-use Rattle.std.proofs.Common.{◌∷◌, ◌++◌, length, map, take, drop, Some, None, refl, ap, ◌∙◌, sym, subst, arith, nat_eq, nat_lt}
+use Rattle.std.proofs.Common.{◌∷◌, ◌++◌, length, map, take, drop, Some, None, refl, ap, ◌∙◌, sym, subst, arith, nat_eq}
 use Rattle.std.proofs.Common.{length-append, length-take}
 use Rattle.std.proofs.lemmas.Bool.{false≢true}
-use Rattle.std.proofs.lemmas.Bool.Decides.{nat_tests}
 use Rattle.std.proofs.lemmas.List.Elements.{All-from_recursion, recursion_from_All}
 use Rattle.std.specs.Prelude.{◌==◌}
 use Rattle.std.specs.List.{AllByRecursion, zip, before_last, suffix_len}
@@ -23,6 +22,7 @@ use Rattle.level_work.proofs.Unfailed.{unfailed}
 use Rattle.tree_copy.specs.Copying.{IsCopied, due, is_untold, or_else, parent_failed, target_of, treated}
 use Rattle.tree_copy.specs.Laws.{FineEntriesAreCopied, IsFineEntry}
 use Rattle.tree_copy.specs.declared.pairs.Pair.{Pair}
+use Rattle.tree_copy.proofs.Comes.{within}
 
 abbrev Row : Type 0
 Row = List ℕ × Fate
@@ -66,14 +66,11 @@ long_target (pair ∷ pairs) p h =
 
 -- ---- one entry
 
-not_longer : (n : ℕ) → n ≤ 4095 → nat_lt 4095 n ≡ false
-not_longer n h = grind (arith, nat_tests)
-
 due_done : (files : Files) (pairs : List Pair) (rows : List Row) (e : Entry) → IsFineEntry files pairs e → is_untold e ≡ false →
     parent_failed pairs rows (target_of pairs e.path) ≡ false →
     due files pairs rows e ≡ fate.Done
 due_done files pairs rows e f known none =
-    λ i. or_else (cond (not_longer (length (target_of pairs e.path)) f.short i) (Some fate.TooLong)
+    λ i. or_else (cond (within (length (target_of pairs e.path)) f.short i) (Some fate.TooLong)
     (cond (none i) (Some fate.ParentFailed) (cond (f.kind i) (Some fate.Skipped) None)))
     (cond (f.free i) fate.Conflict (cond (known i) fate.Changed fate.Done))
 

@@ -4,7 +4,7 @@ use Rattle.std.proofs.Common.{IfSome, refl, ap, ◌∙◌, sym, subst, arith, na
 use Rattle.std.proofs.lemmas.Bool.{false≢true, or_parts, or_from}
 use Rattle.std.proofs.lemmas.Bool.Decides.{nat_tests}
 use Rattle.std.specs.Prelude.{nat_le}
-use Rattle.std.specs.FinMap.{get, insert, get-insert}
+use Rattle.std.specs.FinMap.{get}
 use Rattle.std.specs.List.{All, AllByRecursion, filter, list_any}
 use Rattle.std.specs.List.Sorted.{IsStrictlySortedBy}
 use Rattle.std.specs.Option.{option_map}
@@ -12,7 +12,6 @@ use Rattle.std.specs.Cmp.Lexicographic.{pointwise, bytes_decides}
 use Rattle.std.specs.declared.cmp.Ordering.TheVariants.{Less}
 use Rattle.path_text.specs.Order.{path_cmp, is_under}
 use Rattle.path_text.specs.Path.{refusal, parent_of}
-use Rattle.path_text.specs.Total.{path_cmp_ties, path_cmp_total}
 use Rattle.path_text.proofs.Under.{one_way}
 use Rattle.outside.specs.Parts.{UnderDirectories}
 use Rattle.outside.specs.Tree.{Files, Node, Body, dir, file, link, other, IsTree, is_dir, is_root, kind_of, stat_of}
@@ -33,7 +32,9 @@ use Rattle.tree_copy.specs.Copying.{CanCopy, FitsTree, is_target, target_of, tre
 use Rattle.tree_copy.specs.PrivateDeeds.{CopyKind, CopyOne, CopyTold, MakeDir}
 use Rattle.tree_copy.specs.Placing.{IsPair}
 use Rattle.tree_copy.specs.PrivateSettling.{has_room, item_of, items_of, placed_of}
-use Rattle.tree_copy.proofs.Ends.{Fine, Goes, all_at, goes, no_root, one_path, same_some, under_kept}
+use Rattle.tree_copy.proofs.Ends.{Fine, Goes, all_at, goes, no_root, one_path, under_kept}
+use Rattle.tree_copy.proofs.Puts.{put_here}
+use Rattle.level_work.proofs.Working.{same_some}
 
 -- what is known of the entries and of the pairs
 pub record Known (list : List Entry) (pairs : List Pair) : Type 0 where
@@ -259,9 +260,6 @@ pub told_there : (found : Option Node) (told : Option Stat) → is_some told ≡
 told_there found None s t = absurd (false≢true s)
 told_there None (Some stat) s t = cc
 told_there (Some n) (Some stat) s t = refl
-
-put_here : (p : List ℕ) (n : Node) (files : Files) → get (insert files p n) p ≡ Some n
-put_here p n files = get-insert path_cmp_total files p n p ∙ ap (λ b. cond b (Some n) (get files p)) (sym (path_cmp_ties p p) ∙ (bytes_decides p p).1 refl)
 
 made : (before : Files) (p : List ℕ) (e : Entry) (b a : Files) → get b p ≡ get before p → MakeDir before p e fate.Done b a → is_dir (get a p) ≡ true
 made before p e b a same (inl d) = ap (λ m. is_dir (get m p)) d.1 ∙ ap is_dir (put_here p empty_dir b)

@@ -17,7 +17,8 @@ use Rattle.tree_copy.specs.PrivateActs.{ByReader, IsDirMade}
 use Rattle.tree_copy.specs.PrivateNodes.{Looked}
 use Rattle.tree_copy.proofs.Looks.{Sight, dir_kind, failed, there, in_way, absent, sight}
 use Rattle.path_text.proofs.Within.{itself}
-use Rattle.tree_copy.proofs.Puts.{get_at, get_here, put_others}
+use Rattle.tree_copy.proofs.Puts.{put_others}
+use Rattle.level_work.proofs.Frames.{get_at, get_here}
 
 same_inserted : (p : List ℕ) (n : Node) (files : Files) → at_and_under p (insert files p n) ≡ insert (at_and_under p files) p n
 same_inserted p n files = same_map path_cmp_total path_cmp_same _ _ (λ q.

@@ -13,7 +13,8 @@ use Rattle.tree_copy.specs.Laws.{TargetsAreApart, is_in_source}
 use Rattle.tree_copy.specs.Placing.{IsPair, overlap}
 use Rattle.tree_copy.specs.declared.pairs.Pair.{Pair}
 use Rattle.tree_copy.proofs.Apart.{across}
-use Rattle.tree_copy.proofs.Ends.{Fine, all_at, goes, in_top, meets, met, one_over, one_path, same_some}
+use Rattle.tree_copy.proofs.Ends.{Fine, all_at, goes, in_top, meets, met, one_over, one_path}
+use Rattle.level_work.proofs.Working.{same_some}
 
 abbrev sources_of : List Pair → List (List ℕ)
 sources_of pairs = map (λ pair. pair.source) pairs

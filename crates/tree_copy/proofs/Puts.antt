@@ -1,37 +1,25 @@
 -- A node that is put at a path or taken away, and what a call leaves that does so.
-use Rattle.std.proofs.Common.{◌≡◌, ℕ, Bool, true, false, cond, ◌||◌, List, Option, Some, None, IfSome, refl, ap, ◌∙◌, sym, subst, nat_eq, is_some}
+use Rattle.std.proofs.Common.{◌≡◌, ℕ, Bool, true, false, cond, ◌||◌, List, Option, Some, None, IfSome, refl, ap, ◌∙◌, sym, subst, is_some}
 use Rattle.std.specs.Prelude.{Err}
 use Rattle.std.proofs.lemmas.Bool.{false≢true}
-use Rattle.std.specs.FinMap.{get, insert, remove, get-insert, get-remove, get-retain_keys}
-use Rattle.std.specs.Cmp.Lexicographic.{pointwise, bytes_decides}
-use Rattle.path_text.specs.Order.{is_within}
-use Rattle.path_text.proofs.Within as within
+use Rattle.std.specs.FinMap.{get, insert, remove, get-insert, get-remove}
 use Rattle.path_text.specs.Path.{parent_of}
-use Rattle.path_text.specs.Total.{path_cmp_total, path_cmp_ties, path_cmp_same}
+use Rattle.path_text.specs.Total.{path_cmp_total, path_cmp_ties}
 use Rattle.outside.specs.Tree.{Files, Node, is_dir}
 use Rattle.outside.specs.Writes.{Answers, Area, SameBut, is_top, make_refusal}
 use Rattle.outside.specs.declared.plots.WriteError.{WriteError}
 use Rattle.outside.specs.declared.plots.WriteError.TheVariants as write
-use Rattle.level_work.specs.Acts.{at_and_under}
 use Rattle.tree_copy.specs.PrivateActs.{is_taken}
-
-itself : (p : List ℕ) → pointwise nat_eq p p ≡ true
-itself p = (bytes_decides p p).1 refl
-
-pub get_at : (p : List ℕ) (files : Files) (q : List ℕ) → get (at_and_under p files) q ≡ cond (is_within q p) (get files q) None
-get_at p files q = get-retain_keys files (λ q. is_within q p) q (λ x e. ap (λ y. is_within y p) (sym (path_cmp_same q x e)))
-
-pub get_here : (p : List ℕ) (files : Files) → get (at_and_under p files) p ≡ get files p
-get_here p files = get_at p files p ∙ ap (λ b. cond b (get files p) None) (within.itself p)
+use Rattle.outside.proofs.Saved.{at_itself}
 
 pub put_here : (p : List ℕ) (n : Node) (files : Files) → get (insert files p n) p ≡ Some n
-put_here p n files = get-insert path_cmp_total files p n p ∙ ap (λ b. cond b (Some n) (get files p)) (sym (path_cmp_ties p p) ∙ itself p)
+put_here p n files = get-insert path_cmp_total files p n p ∙ ap (λ b. cond b (Some n) (get files p)) (sym (path_cmp_ties p p) ∙ at_itself p)
 
 pub put_others : (p : List ℕ) (n : Node) (files : Files) → SameBut p files (insert files p n)
 put_others p n files q off = get-insert path_cmp_total files p n q ∙ ap (λ b. cond b (Some n) (get files q)) (sym (path_cmp_ties q p) ∙ off)
 
 pub gone_here : (p : List ℕ) (files : Files) → get (remove files p) p ≡ None
-gone_here p files = get-remove path_cmp_total files p p ∙ ap (λ b. cond b None (get files p)) (sym (path_cmp_ties p p) ∙ itself p)
+gone_here p files = get-remove path_cmp_total files p p ∙ ap (λ b. cond b None (get files p)) (sym (path_cmp_ties p p) ∙ at_itself p)
 
 pub gone_others : (p : List ℕ) (files : Files) → SameBut p files (remove files p)
 gone_others p files q off = get-remove path_cmp_total files p q ∙ ap (λ b. cond b None (get files q)) (sym (path_cmp_ties q p) ∙ off)

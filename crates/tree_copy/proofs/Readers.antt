@@ -4,7 +4,6 @@ use Rattle.std.proofs.Common.{None, IfSome, refl, ◌∙◌, sym, subst, arith, 
 use Rattle.std.proofs.lemmas.Bool.Decides.{nat_tests}
 use Rattle.std.proofs.lemmas.List.Elements.{recursion_from_All}
 use Rattle.std.proofs.lemmas.List.Sums.{sum-map, sum_by-cons}
-use Rattle.std.specs.Prelude.{Result, Ok, Err, IfOk}
 use Rattle.std.specs.List.{All, AllByRecursion, sum_by}
 use Rattle.outside.specs.Count.{RoseBy}
 use Rattle.outside.specs.Tree.{Files}
@@ -15,6 +14,7 @@ use Rattle.level_work.specs.declared.items.Item.{Item}
 use Rattle.level_work.specs.declared.items.Fate.{Fate}
 use Rattle.level_work.specs.declared.items.Order.TheVariants as order
 use Rattle.tree_copy.specs.PrivateDeeds.{CopyOne}
+use Rattle.path_text.proofs.Preordered.{longer}
 
 -- all show one thing
 
@@ -63,14 +63,7 @@ acted_by t t' u u' items fates same last acted =
     by (Some before) None a = tt
     by (Some before) (Some after) a = a
 
-pub if_ok : {X E : Type 0} (P Q : X → Type 0) (r : Result X E) → ((x : X) → P x → Q x) → IfOk r P → IfOk r Q
-if_ok P Q (Ok x) h p = h x p
-if_ok P Q (Err e) h p = tt
-
 -- counts that are taken back
-
-less : (i j : ℕ) → nat_lt i j ≡ true → i < j
-less i j e = grind (arith, nat_tests)
 
 more : (i j : ℕ) → nat_lt i j ≡ false → j ≤ i
 more i j e = grind (arith, nat_tests)
@@ -91,7 +84,7 @@ below_end f n (x ∷ xs) = by (nat_lt (f x) n) refl (below_end f n xs)
     by : (b : Bool) → nat_lt (f x) n ≡ b → ((i k : ℕ) → slice_get (map f xs) i ≡ Some k → k < n) ⊎ (n ≤ sum_by f xs) →
         ((i k : ℕ) → slice_get (map f (x ∷ xs)) i ≡ Some k → k < n) ⊎ (n ≤ sum_by f (x ∷ xs))
     by false e rest = let l = more (f x) n e in inr (omega (arith, l, sum_by-cons f x xs))
-    by true e (inl h) = inl (at (less (f x) n e) h)
+    by true e (inl h) = inl (at (longer (f x) n e) h)
     by true e (inr h) = inr (omega (arith, h, sum_by-cons f x xs))
 
 pub rose_by : {X : Type 0} (f : X → ℕ) (xs ys : List X) (n g g' mid last : ℕ) → g' ≡ g → sum_by f xs ≡ 0 → g' ≤ mid → mid ≤ last →
@@ -102,5 +95,5 @@ rose_by f xs ys n g g' mid last same none kept rises is b =
   where
     by : (c : Bool) → nat_lt mid (2 ^ 64 - 1) ≡ c → NoneAtEnd (map f ys) ⊎ (2 ^ 64 - 1 ≤ sum_by f ys) → min (g + n) (2 ^ 64 - 1) ≤ last
     by false e h = let m = more mid (2 ^ 64 - 1) e in omega (arith, m, rises)
-    by true e (inl h) = let r = b.rose (less mid (2 ^ 64 - 1) e) h in omega (arith, r, same, none, sum-map f xs, sum-map f ys, is)
+    by true e (inl h) = let r = b.rose (longer mid (2 ^ 64 - 1) e) h in omega (arith, r, same, none, sum-map f xs, sum-map f ys, is)
     by true e (inr h) = omega (arith, h, is)

@@ -34,7 +34,7 @@ use Rattle.tree_copy.specs.PrivateNodes.{ShowsLeft}
 use Rattle.tree_copy.specs.PrivateSettling.{any_odd, has_room, is_odd, is_other, item_of, items_of, settled, settled_by}
 use Rattle.tree_copy.proofs.Copiers.{done_is}
 use Rattle.tree_copy.proofs.Comes.{Comes, Row, items_by, long, tried, under, weaker}
-use Rattle.tree_copy.proofs.Ends.{same_some}
+use Rattle.level_work.proofs.Working.{same_some}
 
 -- which fates answers mean
 

@@ -1,5 +1,5 @@
 -- The tally of the entries that were passed, and what is still to come.
-use Rattle.std.proofs.Common.{◌≡◌, ℕ, zero, suc, ◌+◌, ◌-◌, ◌*◌, ◌<◌, ◌≤◌, Bool, true, false, cond, List, [], ◌∷◌}
+use Rattle.std.proofs.Common.{◌≡◌, ℕ, ◌+◌, ◌-◌, ◌*◌, ◌<◌, ◌≤◌, Bool, true, false, cond, List, [], ◌∷◌}
 use Rattle.std.proofs.Common.{◌++◌, length, map, drop, Some, refl, ap, ◌∙◌, sym, subst, arith, is_some, slice_get}
 use Rattle.std.proofs.Common.{append_assoc, append-nil, length-append, length-drop, drop_of_length-le}
 use Rattle.std.proofs.lemmas.Bool.{false≢true}
@@ -15,6 +15,8 @@ use Rattle.level_work.specs.declared.items.Fate.TheVariants as fate
 use Rattle.level_work.specs.Counts.{is_done}
 use Rattle.tree_copy.specs.Copying.{treated}
 use Rattle.tree_copy.specs.PrivateSettling.{bytes_of, fates_of, fitting, gain, rest_of, settled}
+use Rattle.level_work.proofs.Giving.{split_drop}
+use Rattle.level_work.proofs.Working.{some_at}
 
 -- ---- the paths and the fates of rows
 
@@ -108,19 +110,10 @@ module _ (all : List Entry) (fits : List Bool) (outs : List Fate) where
 
 -- lists from a place on
 
-pub drop_at : {X : Type 0} (xs : List X) (k : ℕ) (x : X) → slice_get xs k ≡ Some x → drop k xs ≡ x ∷ drop (k + 1) xs
-drop_at xs k x e = let one : suc k ≡ k + 1 = omega arith in by xs k x e ∙ ap (λ n. x ∷ drop n xs) one
-  where
-    by : {X : Type 0} (xs : List X) (k : ℕ) (x : X) → slice_get xs k ≡ Some x → drop k xs ≡ x ∷ drop (suc k) xs
-    by [] zero x e = cc
-    by [] (suc k) x e = cc
-    by (y ∷ xs) zero x e = cc
-    by (y ∷ xs) (suc k) x e = by xs k x e
-
 pub next_of : (list same : List Entry) (k k' : ℕ) (e : Entry) → same ≡ list → slice_get same (k' - 1) ≡ Some e → k' ≡ k + 1 → drop k list ≡ e ∷ drop k' list
 next_of list same k k' e is at one =
     let place : k' - 1 ≡ k = omega (arith, one) in
-    drop_at list k e (ap (λ l. slice_get l k) (sym is) ∙ ap (slice_get same) (sym place) ∙ at) ∙ ap (λ n. e ∷ drop n list) (sym one)
+    split_drop list k e (ap (λ l. slice_get l k) (sym is) ∙ ap (slice_get same) (sym place) ∙ at) ∙ ap (λ n. e ∷ drop n list) (sym one)
 
 pub moved_on : (s s' : List Entry × ℕ) (b : Bool) → s' ≡ (s.0, cond b (s.1 + 1) s.1) → b ≡ true → (s'.0 ≡ s.0) × (s'.1 ≡ s.1 + 1)
 moved_on s s' b is more = (ap (λ (t : List Entry × ℕ). t.0) is, ap (λ (t : List Entry × ℕ). t.1) is ∙ ap (λ b. cond b (s.1 + 1) s.1) more)
@@ -129,11 +122,6 @@ treated_next : (rest now : List Entry) (e : Entry) (b : Bool) → now ≡ e ∷ 
 treated_next rest now e b is has = ap treated is ∙ ap (λ b. cond b (e ∷ treated rest) (treated rest)) has
 
 -- where a list goes on
-
-some_at : {X : Type 0} (xs : List X) (k : ℕ) → k < length xs → (x : X) × (slice_get xs k ≡ Some x)
-some_at [] k l = absurd (omega (arith, l))
-some_at (x ∷ xs) zero l = (x, refl)
-some_at (x ∷ xs) (suc k) l = some_at xs k (omega (arith, l))
 
 goes_on : {X : Type 0} (xs : List X) (k n : ℕ) → length (drop k xs) ≡ n → 0 < n → k < length xs
 goes_on xs k n e l = omega (arith, e, l, length-drop k xs)
@@ -163,7 +151,7 @@ module _ (all : List Entry) (fits : List Bool) (outs : List Fate) where
       Tallied all fits outs (treated now) (drop at fits) (drop place outs) told fates copied bytes → Tallied all fits outs (treated rest) (drop at' fits)
       (drop place' outs) told' fates' copied' bytes'
   passed rest now e at at' place place' true f told told' fates fates' copied copied' bytes bytes' is some has known next one n t =
-      let marks = drop_at fits at true has ∙ ap (λ m. true ∷ drop m fits) (sym one) in
+      let marks = split_drop fits at true has ∙ ap (λ m. true ∷ drop m fits) (sym one) in
       let u : Tallied all fits outs (e ∷ treated rest) (true ∷ drop at' fits) (drop place outs) told fates copied bytes =
       subst (λ es. Tallied all fits outs es (true ∷ drop at' fits) (drop place outs) told fates copied bytes) (treated_next rest now e true is some)
       (subst (λ ms. Tallied all fits outs (treated now) ms (drop place outs) told fates copied bytes) marks t)
@@ -171,11 +159,11 @@ module _ (all : List Entry) (fits : List Bool) (outs : List Fate) where
       let g = some_at outs place (goes_on outs place _ u.left_len (omega (arith, sum_by-cons (λ (m : Bool). cond m 1 0) true (drop at' fits)))) in
       passed_by all fits outs true e f (treated rest) (drop at' fits) (g.0 ∷ drop place' outs) (drop place' outs) told told' fates fates' copied copied'
       bytes bytes'
-      (subst (λ os. Tallied all fits outs (e ∷ treated rest) (true ∷ drop at' fits) os told fates copied bytes) (drop_at outs place g.0 g.1
+      (subst (λ os. Tallied all fits outs (e ∷ treated rest) (true ∷ drop at' fits) os told fates copied bytes) (split_drop outs place g.0 g.1
       ∙ ap (λ m. g.0 ∷ drop m outs) (sym next)) u)
       (ap (λ h. h ∷ fates_of (drop at' fits) (treated rest) (drop place' outs)) (sym (known.fits refl g.0 g.1))) (omega arith) n
   passed rest now e at at' place place' false f told told' fates fates' copied copied' bytes bytes' is some has known next one n t =
-      let marks = drop_at fits at false has ∙ ap (λ m. false ∷ drop m fits) (sym one) in
+      let marks = split_drop fits at false has ∙ ap (λ m. false ∷ drop m fits) (sym one) in
       let u : Tallied all fits outs (e ∷ treated rest) (false ∷ drop at' fits) (drop place' outs) told fates copied bytes =
       subst (λ os. Tallied all fits outs (e ∷ treated rest) (false ∷ drop at' fits) os told fates copied bytes) (ap (λ m. drop m outs) (sym next))
       (subst (λ es. Tallied all fits outs es (false ∷ drop at' fits) (drop place outs) told fates copied bytes) (treated_next rest now e true is some)
@@ -230,7 +218,7 @@ now_fits : (fits : List Bool) (at at' : ℕ) (fit : Bool) (now rest : List Entry
     slice_get fits at ≡ Some fit → at' ≡ at + 1 → before ≡ fitting (drop at fits) (paths (treated now)) →
     before ≡ fitting (fit ∷ drop at' fits) (e.path ∷ paths (treated rest))
 now_fits fits at at' fit now rest e before is some has one left =
-    let marks : drop at fits ≡ fit ∷ drop at' fits = drop_at fits at fit has ∙ ap (λ n. fit ∷ drop n fits) (sym one) in
+    let marks : drop at fits ≡ fit ∷ drop at' fits = split_drop fits at fit has ∙ ap (λ n. fit ∷ drop n fits) (sym one) in
     left ∙ (λ i. fitting (marks i) (paths (treated_next rest now e true is some i)))
 
 pub path_step : (fits : List Bool) (at at' : ℕ) (fit : Bool) (now rest : List Entry) (e : Entry) (path : List ℕ) (before after : List (List ℕ)) →
@@ -259,7 +247,7 @@ pub fate_left : (all : List Entry) (fits : List Bool) (outs : List Fate) (rest n
     (fates : List Fate) (copied bytes : ℕ) → now ≡ e ∷ rest → slice_get fits at ≡ Some true →
     Tallied all fits outs (treated now) (drop at fits) (drop place outs) told fates copied bytes → place < length outs
 fate_left all fits outs rest now e at place told fates copied bytes is has t = goes_on outs place _ t.left_len
-    (omega (arith, ap (count_by (λ m. m)) (drop_at fits at true has), sum_by-cons (λ (m : Bool). cond m 1 0) true (drop (at + 1) fits)))
+    (omega (arith, ap (count_by (λ m. m)) (split_drop fits at true has), sum_by-cons (λ (m : Bool). cond m 1 0) true (drop (at + 1) fits)))
 
 -- at the end of the list all is told
 pub at_end : (list : List Entry) (fits : List Bool) (outs : List Fate) (s : List Entry × ℕ) (more : Bool) (marks : List Bool) (left : List Fate)

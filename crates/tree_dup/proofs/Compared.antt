@@ -1,6 +1,6 @@
 -- Runs that workers compared.
 use Rattle.std.proofs.Common.{◌≡◌, ℕ, suc, ◌+◌, ◌<◌, ◌≤◌, false, List, [], ◌∷◌, length, map, take, drop, get_or, refl, sym, ap, subst, ◌∙◌}
-use Rattle.std.proofs.Common.{arith, All, IfSome, Option, Some, None}
+use Rattle.std.proofs.Common.{arith, All, IfSome, Option}
 use Rattle.std.proofs.lemmas.List.{length-take-le, length-drop, drop-take, take-take}
 use Rattle.std.proofs.lemmas.List.Sums.{sum_by-cons}
 use Rattle.outside.specs.Asked.{Asks}
@@ -93,10 +93,6 @@ pub front_cut : (files whole left : List File) (start : ℕ) → files ≡ take 
 front_cut files whole left start e f inside =
     let long : length left ≡ start = ap (λ (fs : List File). length fs) f ∙ length-take-le start files inside in
     f ∙ ap (take start) e ∙ take-take start (length files) whole inside ∙ (λ i. take (sym long i) whole)
-
-pub if_some : {X : Type 0} (o : Option X) (P Q : X → Type 0) → ((x : X) → P x → Q x) → IfSome o P → IfSome o Q
-if_some None P Q f h = tt
-if_some (Some x) P Q f h = f x h
 
 pub sizes_none : (size : ℕ) (files : List File) → size ≡ 0 → All (λ f. f.size ≡ size) files → All (λ f. f.size ≡ 0) files
 sizes_none size files z h = λ k d l. h k d l ∙ z

@@ -1,6 +1,5 @@
 -- One more file of a run is dealt out.
-use Rattle.std.proofs.Common.{◌≡◌, ℕ, List, [], ◌∷◌, length, refl, sym, subst, append-nil}
-use Rattle.std.proofs.Common.{arith}
+use Rattle.std.proofs.Common.{◌≡◌, ℕ, List, [], refl, sym, subst, append-nil}
 use Rattle.tree_dup.specs.Told.{Grouping}
 use Rattle.tree_dup.specs.declared.runs.File.{File}
 use Rattle.tree_dup.specs.Private.Dealing.{AreDealt}
@@ -17,7 +16,3 @@ dealt_none found = record {
 pub dealt_first : (paths : List (List ℕ)) (others : List File) (found : Grouping) → paths ≡ [] → others ≡ [] → AreDealt [] paths others found found
 dealt_first paths others found e f =
     subst (λ ps. AreDealt [] ps others found found) (sym e) (subst (λ fs. AreDealt [] [] fs found found) (sym f) (dealt_none found))
-
-pub nil_of : {X : Type 0} (xs : List X) → length xs ≡ 0 → xs ≡ []
-nil_of [] e = refl
-nil_of (x ∷ xs) e = absurd (omega arith)

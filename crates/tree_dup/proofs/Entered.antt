@@ -7,7 +7,7 @@ use Rattle.std.specs.FinMap.{get}
 use Rattle.std.specs.Cmp.{first_so}
 use Rattle.std.specs.Cmp.Lexicographic.{pointwise}
 use Rattle.std.specs.Option.{option_map}
-use Rattle.std.proofs.lemmas.Bool.{false≢true, eq-eqb, ne_eqb, ltb-false}
+use Rattle.std.proofs.lemmas.Bool.{false≢true, eq-eqb, ne_eqb, ltb-false, and_from}
 use Rattle.std.proofs.lemmas.List.{map-append, take_all}
 use Rattle.std.proofs.lemmas.List.Elements.{All-nil, All-push}
 use Rattle.std.proofs.lemmas.List.Folds.{list_any_at}
@@ -30,9 +30,10 @@ use Rattle.std.specs.HashMap.{HashMap}
 use Rattle.std.specs.declared.hash.FoldHasher.{FoldHasher}
 use Rattle.std.specs.declared.hash.BuildHasherDefault.{BuildHasherDefault}
 use Rattle.tree_dup.specs.Private.Sizes.{candidate_size, file_size, AreCounts}
-use Rattle.tree_dup.proofs.Piled.{one_if, times-cons, times-append, path_itself}
+use Rattle.tree_dup.proofs.Piled.{one_if, times-cons, times-append}
 use Rattle.tree_dup.proofs.Parted.{if_told}
-use Rattle.tree_dup.proofs.Sifted.{path_of, both_true}
+use Rattle.tree_dup.proofs.Sifted.{path_of}
+use Rattle.outside.proofs.Saved.{at_itself}
 
 -- ---- a file of its size
 
@@ -56,7 +57,7 @@ module _ (list : List Entry) (at : ℕ) (e : Entry) (there : slice_get list at �
   here test passes =
       list_any_at (λ (x : Entry). pointwise nat_eq e.path x.path && test x) list at e (slice_get_within list at e there)
       (subst (λ (x : Entry). (pointwise nat_eq e.path x.path && test x) ≡ true) (sym (get_or_from_slice_get list at e e there))
-      (both_true (pointwise nat_eq e.path e.path) (test e) (path_itself e.path) passes))
+      (and_from (pointwise nat_eq e.path e.path) (test e) (at_itself e.path) passes))
 
   more : (p : List ℕ) → candidates_in list (take (at + 1) list) p ≡ candidates_in list (take at list) p + one_if (pointwise eqb p e.path && is_candidate list e)
   more p =
@@ -99,7 +100,7 @@ module _ (list : List Entry) (at : ℕ) (e : Entry) (there : slice_get list at �
     not_zero n l = ap not (ne_eqb n 0 (λ e. omega (arith, e)))
 
     read : 0 < size → has (is_read list) list e.path ≡ true
-    read l = here (is_read list) (both_true (is_candidate list e) (not (size_by e.stat == 0)) is_one.0 (not_zero (size_by e.stat) (omega (arith, is_one.1))))
+    read l = here (is_read list) (and_from (is_candidate list e) (not (size_by e.stat == 0)) is_one.0 (not_zero (size_by e.stat) (omega (arith, is_one.1))))
 
     counts : (p : List ℕ) → candidates_in list (take (at + 1) list) p ≡ candidates_in list (take at list) p + one_if (pointwise eqb p e.path)
     counts p = more p ∙ ap (λ n. candidates_in list (take at list) p + n) (if_true (pointwise eqb p e.path) (is_candidate list e) is_one.0)
@@ -110,7 +111,7 @@ module _ (list : List Entry) (at : ℕ) (e : Entry) (there : slice_get list at �
         let listed : IsListed tree list f = record {
           sized = subst (λ n. has (is_sized n) list f.path ≡ true) (sym of_size)
               (subst (λ p. has (is_sized size) list p ≡ true) (sym at_path)
-              (here (is_sized size) (both_true (is_of kind.File e.stat) (size_by e.stat == size) is_file (eq-eqb (size_by e.stat) size is_one.1))));
+              (here (is_sized size) (and_from (is_of kind.File e.stat) (size_by e.stat == size) is_file (eq-eqb (size_by e.stat) size is_one.1))));
           read = λ l. subst (λ p. has (is_read list) list p ≡ true) (sym at_path) (read (omega (arith, l, of_size)));
           there = if_told tree (λ t. IsFileOf (get t e.path) size) (λ t. IsThere t f)
               (λ t k. subst (λ n. IsFileOf (get t f.path) n) (sym of_size) (subst (λ p. IsFileOf (get t p) size) (sym at_path) k)) there_of;

@@ -18,8 +18,9 @@ use Rattle.entry_pages.specs.declared.entries.Entry.{Entry}
 use Rattle.tree_dup.specs.Grouping.{IsGrouping, has, is_candidate, is_in}
 use Rattle.tree_dup.specs.Private.Piles.{times}
 use Rattle.tree_dup.specs.Told.{Told, Grouping}
-use Rattle.tree_dup.proofs.Piled.{have, any_counts, counts_any, one_if, path_itself, times-append, times-cons}
+use Rattle.tree_dup.proofs.Piled.{have, any_counts, counts_any, one_if, times-append, times-cons}
 use Rattle.tree_dup.proofs.Strict.{stands_once}
+use Rattle.outside.proofs.Saved.{at_itself}
 
 abbrev Ascends : Told → Type 0
 Ascends g = IsStrictlySortedBy path_cmp g.paths
@@ -65,7 +66,7 @@ unfolding IsDistinct
 distinct [] one = tt
 distinct (x ∷ xs) one =
     let o = one x in (
-      others x xs (omega (arith, times-cons x x xs, ap one_if (path_itself x))),
+      others x xs (omega (arith, times-cons x x xs, ap one_if (at_itself x))),
       distinct xs (λ p. let o = one p in omega (arith, times-cons p x xs)),
     )
 

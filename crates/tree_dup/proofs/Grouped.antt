@@ -27,6 +27,7 @@ use Rattle.tree_dup.proofs.Piled.{one_if, positive, positive_so, positive_back, 
 use Rattle.tree_dup.proofs.Piled.{times-cons, times-append, times-permutation}
 use Rattle.tree_dup.proofs.Parted.{if_told}
 use Rattle.tree_dup.proofs.Strict.{strict, stands, stands_once}
+use Rattle.flat_list.proofs.Decoded.{is_not}
 
 -- ---- the candidates of a list
 
@@ -51,10 +52,6 @@ candidates_once list p up = omega (arith, fewer p (is_candidate list) list, stan
 
 -- ---- tests
 
-not_false : (b : Bool) → not b ≡ true → b ≡ false
-not_false true e = absurd (false≢true e)
-not_false false e = refl
-
 zero_count : {X : Type 0} (p : X → Bool) (xs : List X) → list_any p xs ≡ false → count_by p xs ≡ 0
 zero_count p xs e = by (count_by p xs) (sym (any_is p xs) ∙ e)
   where
@@ -71,7 +68,7 @@ kept_so list found p c m =
 kept_back : (list : List Entry) (found : Grouping) (p : List ℕ) → is_kept list found p ≡ true → (0 < candidates_in list list p) × (misses found p ≡ 0)
 kept_back list found p k =
     let there = first_so (has (is_candidate list) list p) (not (is_missed found p)) k in
-    let none = not_false (is_missed found p) (second_so (has (is_candidate list) list p) (not (is_missed found p)) k) in (
+    let none = is_not (is_missed found p) (second_so (has (is_candidate list) list p) (not (is_missed found p)) k) in (
       any_counts (λ e. pointwise eqb p e.path && is_candidate list e) list there,
       sym (times-append p found.failed found.changed) ∙ zero_count (pointwise eqb p) (found.failed ++ found.changed) none,
     )

@@ -16,4 +16,3 @@ mod Ran
 mod Sifted
 mod Stood
 mod Strict
-mod Written

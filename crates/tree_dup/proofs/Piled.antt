@@ -9,6 +9,7 @@ use Rattle.std.proofs.lemmas.List.Elements.{All-head, All-tail}
 use Rattle.std.proofs.lemmas.List.Sums.{sum_by-cons, sum_by-append}
 use Rattle.std.proofs.lemmas.List.Sorted.{sum_by-IsPermutation}
 use Rattle.tree_dup.specs.Private.Piles.{times, times_in, joints, joints_in}
+use Rattle.tree_cmp.proofs.Taken.{same}
 
 -- ---- tests and numbers
 
@@ -61,12 +62,6 @@ none_any p xs e = any_is p xs ∙ ap positive e
 
 -- ---- how often a path stands in a pile
 
-pub path_same : (p q : List ℕ) → pointwise eqb p q ≡ true → p ≡ q
-path_same p q e = (bytes_decides p q).0 e
-
-pub path_itself : (p : List ℕ) → pointwise eqb p p ≡ true
-path_itself p = (bytes_decides p p).1 refl
-
 pub times-cons : (p x : List ℕ) (xs : List (List ℕ)) → times p (x ∷ xs) ≡ cond (pointwise eqb p x) 1 0 + times p xs
 times-cons p x xs = sum_by-cons (λ x. cond (pointwise eqb p x) 1 0) x xs
 
@@ -85,7 +80,7 @@ have P p [] h l = absurd (omega arith)
 have P p (x ∷ xs) h l = by (pointwise eqb p x) refl (have P p xs (All-tail P x xs h))
   where
     by : (b : Bool) → pointwise eqb p x ≡ b → (0 < times p xs → P p) → P p
-    by true e rest = subst P (sym (path_same p x e)) (All-head P x xs h)
+    by true e rest = subst P (sym (same p x e)) (All-head P x xs h)
     by false e rest = rest (omega (arith, times-cons p x xs, ap one_if e))
 
 at_most_one : (b c : Bool) → (b ≡ true → c ≡ true → ⊥) → cond b 1 0 + cond c 1 0 ≤ 1
@@ -100,7 +95,7 @@ two_stand p q [] ne = omega arith
 two_stand p q (x ∷ xs) ne =
     let rest = two_stand p q xs ne in
     let one = at_most_one (pointwise eqb p x) (pointwise eqb q x)
-    (λ e f. false≢true (sym ne ∙ (bytes_decides p q).1 (path_same p x e ∙ sym (path_same q x f)))) in
+    (λ e f. false≢true (sym ne ∙ (bytes_decides p q).1 (same p x e ∙ sym (same q x f)))) in
     omega (arith, times-cons p x xs, times-cons q x xs)
 
 -- ---- piles

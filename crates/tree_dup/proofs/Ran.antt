@@ -6,13 +6,12 @@ use Rattle.std.specs.Cmp.Lexicographic.{slice_cmp}
 use Rattle.std.specs.FinMap.{slice_cmp-IsAntisymmetric, nat_cmp-IsAntisymmetric}
 use Rattle.std.specs.Cmp.{IsStrictWeakOrder}
 use Rattle.std.specs.Ordering.{ordering_reverse, ordering_then}
-use Rattle.std.proofs.lemmas.Bool.{false≢true, eqb-true, eq-eqb}
+use Rattle.std.proofs.lemmas.Bool.{false≢true, eqb-true, eq-eqb, and_from}
 use Rattle.std.proofs.lemmas.Cmp.{nat_list_cmp_total}
 use Rattle.std.proofs.lemmas.List.{drop-map, get_or_default, get_or-drop, get_or-take, take-map}
 use Rattle.std.proofs.lemmas.List.Sorted.{ranks_by, sorted_far}
 use Rattle.tree_dup.specs.declared.runs.File.{File}
 use Rattle.tree_dup.specs.Private.Running.{HasContent, IsRun, IsLastRun, content_cmp, same_content, still}
-use Rattle.tree_dup.proofs.Sifted.{both_true}
 
 -- content by which files are in order
 abbrev pub key : File → List ℕ
@@ -28,7 +27,7 @@ key_same : (a b : File) → key a ≡ key b → same_content a b ≡ true
 key_same a b e =
     let sizes : a.size ≡ b.size = cc in
     let hashes : a.hash ≡ b.hash = cc in
-    both_true (a.size == b.size) (a.hash == b.hash) (eq-eqb a.size b.size sizes) (eq-eqb a.hash b.hash hashes)
+    and_from (a.size == b.size) (a.hash == b.hash) (eq-eqb a.size b.size sizes) (eq-eqb a.hash b.hash hashes)
 
 ties : (o p : Ordering) → o ≡ ordering_reverse p → is_lt o ≡ false → is_lt p ≡ false → o ≡ Equal
 ties Less p r e f = absurd (false≢true (sym e))

@@ -1,9 +1,9 @@
 -- Files that are divided step by step: at first all candidates, then a run of one size and one hash, then those of other bytes.
-use Rattle.std.proofs.Common.{◌≡◌, ℕ, ◌+◌, ◌<◌, ◌≤◌, Bool, true, false, ◌&&◌, ◌==◌, List, [], ◌∷◌, ◌++◌, length, map, take, drop, get_or}
+use Rattle.std.proofs.Common.{◌≡◌, ℕ, ◌+◌, ◌<◌, ◌≤◌, true, ◌==◌, List, [], ◌∷◌, ◌++◌, length, map, take, drop, get_or}
 use Rattle.std.proofs.Common.{Option, Some, None}
-use Rattle.std.proofs.Common.{IfSome, All, IsPermutation, refl, sym, ap, subst, ◌∙◌, arith, length-drop}
+use Rattle.std.proofs.Common.{IfSome, All, IsPermutation, sym, ap, subst, ◌∙◌, arith, length-drop}
 use Rattle.std.specs.FinMap.{get}
-use Rattle.std.proofs.lemmas.Bool.{false≢true, eq-eqb}
+use Rattle.std.proofs.lemmas.Bool.{false≢true, eq-eqb, and_from}
 use Rattle.std.proofs.lemmas.List.{get_or_default, get_or-drop, get_or-take, length-map, map-append, length-take-le, take-append-drop}
 use Rattle.std.proofs.lemmas.List.Elements.{All-nil, All-cons, All-head, All-tail, All-take, All-drop, All-map}
 use Rattle.std.proofs.lemmas.List.Sorted.{All-permutation, IsPermutation-map}
@@ -43,18 +43,13 @@ sifted_first tree list files files' found moved h =
 
 -- ---- a run is taken off the end
 
-pub both_true : (a b : Bool) → a ≡ true → b ≡ true → (a && b) ≡ true
-both_true true true e f = refl
-both_true true false e f = absurd (false≢true f)
-both_true false b e f = absurd (false≢true e)
-
 -- files of the same bytes have one size and one hash
 same_files : (tree : Files) (list : List Entry) (f g : File) → IsHashed (Some tree) list f → IsHashed (Some tree) list g →
     content (get tree f.path) ≡ content (get tree g.path) → same_content f g ≡ true
 same_files tree list f g h k e =
     let sizes : f.size ≡ g.size = sym h.there.size ∙ ap length e ∙ k.there.size in
     let hashes : f.hash ≡ g.hash = h.hash ∙ ap content_hash e ∙ sym k.hash in
-    both_true (f.size == g.size) (f.hash == g.hash) (eq-eqb f.size g.size sizes) (eq-eqb f.hash g.hash hashes)
+    and_from (f.size == g.size) (f.hash == g.hash) (eq-eqb f.size g.size sizes) (eq-eqb f.hash g.hash hashes)
 
 -- of two piles of files, any two
 two_have : (P : List ℕ → List ℕ → Type 0) (p q : List ℕ) (xs ys : List File) →

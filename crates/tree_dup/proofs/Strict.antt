@@ -11,7 +11,9 @@ use Rattle.std.proofs.lemmas.List.Sorted.{ranks_by, sorted_far}
 use Rattle.path_text.specs.Order.{path_cmp}
 use Rattle.path_text.specs.Total.{path_cmp_total, path_cmp_same}
 use Rattle.tree_dup.specs.Private.Piles.{times}
-use Rattle.tree_dup.proofs.Piled.{one_if, times-cons, path_itself, path_same}
+use Rattle.tree_dup.proofs.Piled.{one_if, times-cons}
+use Rattle.outside.proofs.Saved.{at_itself}
+use Rattle.tree_cmp.proofs.Taken.{same}
 
 -- no path comes before one that stands before it
 abbrev Far : List (List ℕ) → Type 0
@@ -44,7 +46,7 @@ strict xs up once = by xs (far xs up) once
         (up 0 (suc k) d (omega arith) (omega arith))
         (λ e. let again = stands x xs k d l (path_cmp_same (get_or xs k d) x e) in
         let o = once x in
-        absurd (omega (arith, times-cons x x xs, ap one_if (path_itself x)))) in (
+        absurd (omega (arith, times-cons x x xs, ap one_if (at_itself x)))) in (
           recursion_from_All (λ y. path_cmp x y ≡ Less) xs first,
           by xs (λ i j d l m. up (suc i) (suc j) d (omega arith) (omega arith)) (λ p. let o = once p in omega (arith, times-cons p x xs)),
         )
@@ -61,7 +63,7 @@ none_behind x [] h = refl
 none_behind x (y ∷ ys) h = by (pointwise eqb x y) refl (none_behind x ys h.1)
   where
     by : (b : Bool) → pointwise eqb x y ≡ b → times x ys ≡ 0 → times x (y ∷ ys) ≡ 0
-    by true e rest = absurd (not_less (path_cmp x x) (path_cmp_total.antisymm x x) (subst (λ z. path_cmp x z ≡ Less) (sym (path_same x y e)) h.0))
+    by true e rest = absurd (not_less (path_cmp x x) (path_cmp_total.antisymm x x) (subst (λ z. path_cmp x z ≡ Less) (sym (same x y e)) h.0))
     by false e rest = omega (arith, times-cons x y ys, ap one_if e)
 
 pub stands_once : (xs : List (List ℕ)) (p : List ℕ) → IsStrictlySortedBy path_cmp xs → times p xs ≤ 1
@@ -71,6 +73,6 @@ stands_once (x ∷ xs) p s = by (pointwise eqb p x) refl (stands_once xs p s.1)
   where
     by : (b : Bool) → pointwise eqb p x ≡ b → times p xs ≤ 1 → times p (x ∷ xs) ≤ 1
     by true e rest =
-        let none : times p xs ≡ 0 = subst (λ q. times q xs ≡ 0) (sym (path_same p x e)) (none_behind x xs s.0) in
+        let none : times p xs ≡ 0 = subst (λ q. times q xs ≡ 0) (sym (same p x e)) (none_behind x xs s.0) in
         omega (arith, times-cons p x xs, ap one_if e)
     by false e rest = omega (arith, times-cons p x xs, ap one_if e)

@@ -11,7 +11,6 @@ use Rattle.std.specs.Option.{option_map}
 use Rattle.std.specs.declared.cmp.Ordering.TheVariants.{Less}
 use Rattle.path_text.specs.Order.{path_cmp}
 use Rattle.path_text.specs.Path.{refusal, parent_of}
-use Rattle.path_text.specs.Total.{path_cmp_ties}
 use Rattle.outside.specs.Tree.{Files, Node, Body, dir, file, link, other, IsTree, is_dir, is_dir_body, is_root, kind_of}
 use Rattle.outside.specs.declared.trees.Kind.TheVariants as kind
 use Rattle.outside.specs.declared.trees.Stat.{Stat}
@@ -23,8 +22,9 @@ use Rattle.level_work.specs.declared.items.Item.{Item}
 use Rattle.level_work.specs.declared.items.Order.TheVariants as order
 use Rattle.tree_remove.specs.PrivateDeeds.{item_of, items_of}
 use Rattle.tree_remove.specs.Removing.{AreChosen, AreThere}
-use Rattle.tree_remove.proofs.Frames.{itself}
 use Rattle.tree_remove.proofs.Removal.{Stands, not_none}
+use Rattle.level_work.proofs.Working.{same_some}
+use Rattle.path_text.proofs.Under.{irreflexive}
 
 -- the entry of an item, of which this is so
 pub record Told (P : Entry → Type 0) (x : Item) : Type 0 where
@@ -32,28 +32,19 @@ pub record Told (P : Entry → Type 0) (x : Item) : Type 0 where
   pub is : x ≡ item_of entry
   pub so : P entry
 
-the_same : {X : Type 0} (a b : X) → Some a ≡ Some b → a ≡ b
-the_same a b e = cc
-
 told_at : (P : Entry → Type 0) (es : List Entry) → AllByRecursion P es → (k : ℕ) (x : Item) → slice_get (items_of es) k ≡ Some x → Told P x
 told_at P [] h k x e = absurd (none k e)
   where
     none : (k : ℕ) → slice_get {X = Item} [] k ≡ Some x → ⊥
     none zero e = cc
     none (suc k) e = cc
-told_at P (e ∷ es) h zero x at = record { entry = e; is = sym (the_same (item_of e) x at); so = h.0 }
+told_at P (e ∷ es) h zero x at = record { entry = e; is = sym (same_some (item_of e) x at); so = h.0 }
 told_at P (e ∷ es) h (suc k) x at = told_at P es h.1 k x at
 
 pub told : (P : Entry → Type 0) (es : List Entry) → All P es → (k : ℕ) (x : Item) → slice_get (items_of es) k ≡ Some x → Told P x
 told P es h = told_at P es (recursion_from_All P es h)
 
 -- paths that ascend stand once each
-
-not_below_itself : (p : List ℕ) → path_cmp p p ≡ Less → ⊥
-not_below_itself p e = false≢true (sym (ap is_equal e) ∙ sym (path_cmp_ties p p) ∙ itself p)
-  where
-    is_equal : Rattle.std.specs.declared.cmp.Ordering.Ordering → Bool
-    is_equal o = Rattle.std.specs.Ordering.is_eq o
 
 above : (p : List ℕ) (es : List Entry) → AllByRecursion (λ q. path_cmp p q ≡ Less) (paths es) → AllByRecursion (λ e. path_cmp p e.path ≡ Less) es
 above p [] h = tt
@@ -67,12 +58,12 @@ distinct [] s (suc j) k y x a b same = cc
 distinct (e ∷ es) s zero zero y x a b same = refl
 distinct (e ∷ es) s zero (suc k) y x a b same =
     let t = told_at (λ f. path_cmp e.path f.path ≡ Less) es (above e.path es s.0) k x b in
-    let is : t.entry.path ≡ e.path = ap (λ i. i.path) (sym t.is) ∙ sym same ∙ ap (λ i. i.path) (sym (the_same (item_of e) y a)) in
-    absurd (not_below_itself e.path (ap (path_cmp e.path) (sym is) ∙ t.so))
+    let is : t.entry.path ≡ e.path = ap (λ i. i.path) (sym t.is) ∙ sym same ∙ ap (λ i. i.path) (sym (same_some (item_of e) y a)) in
+    absurd (irreflexive e.path (ap (path_cmp e.path) (sym is) ∙ t.so))
 distinct (e ∷ es) s (suc j) zero y x a b same =
     let t = told_at (λ f. path_cmp e.path f.path ≡ Less) es (above e.path es s.0) j y a in
-    let is : t.entry.path ≡ e.path = ap (λ i. i.path) (sym t.is) ∙ same ∙ ap (λ i. i.path) (sym (the_same (item_of e) x b)) in
-    absurd (not_below_itself e.path (ap (path_cmp e.path) (sym is) ∙ t.so))
+    let is : t.entry.path ≡ e.path = ap (λ i. i.path) (sym t.is) ∙ same ∙ ap (λ i. i.path) (sym (same_some (item_of e) x b)) in
+    absurd (irreflexive e.path (ap (path_cmp e.path) (sym is) ∙ t.so))
 distinct (e ∷ es) s (suc j) (suc k) y x a b same = ap suc (distinct es s.1 j k y x a b same)
 
 pub are_items : (es : List Entry) → AreChosen es → All (λ e. refusal e.path ≡ None) es → AreItems (items_of es)
@@ -112,7 +103,7 @@ seen_as : (found : Option Node) (stat : Option Stat) → is_some stat ≡ true
     → option_map (λ n. kind_of n.body) found ≡ option_map (λ s. s.kind) stat → SeenAs found stat
 seen_as found None s e = absurd (false≢true s)
 seen_as None (Some stat) s e = cc
-seen_as (Some n) (Some stat) s e = record { there = refl; kind = dir_kind n.body ∙ ap (is_kind kind.Dir) (the_same (kind_of n.body) stat.kind e) }
+seen_as (Some n) (Some stat) s e = record { there = refl; kind = dir_kind n.body ∙ ap (is_kind kind.Dir) (same_some (kind_of n.body) stat.kind e) }
 
 pub stands : (files : Files) (es : List Entry) → AreChosen es → All (λ e. refusal e.path ≡ None) es → AreThere es files → (k : ℕ) (x : Item) →
     slice_get (items_of es) k ≡ Some x → Stands files x

@@ -22,8 +22,8 @@ use Rattle.level_work.specs.Acts.{IsDone, at_and_under}
 use Rattle.level_work.specs.declared.items.Fate.{Fate}
 use Rattle.level_work.specs.declared.items.Fate.TheVariants as fate
 use Rattle.tree_remove.specs.PrivateDeeds.{Removal, removal_refusal, told_fate}
-use Rattle.tree_remove.proofs.Frames.{get_at, get_here}
 use Rattle.tree_remove.proofs.Names.{some_named, named_under, under_within}
+use Rattle.level_work.proofs.Frames.{get_at, get_here}
 
 -- a refusal sees no more than what is at and under its path
 

@@ -13,7 +13,8 @@ use Rattle.path_text.specs.Total.{path_cmp_ties}
 use Rattle.outside.specs.Tree.{Files, names_in, name_below}
 use Rattle.level_work.specs.Acts.{at_and_under}
 use Rattle.tree_remove.specs.Removing.{HasUnder}
-use Rattle.tree_remove.proofs.Frames.{get_at, itself}
+use Rattle.level_work.proofs.Frames.{get_at}
+use Rattle.outside.proofs.Saved.{at_itself}
 
 -- a path with a name below another, among some paths
 pub record Named (p : List ℕ) (qs : List (List ℕ)) : Type 0 where
@@ -26,7 +27,7 @@ name_here : (p x : List ℕ) (qs : List (List ℕ)) (o : Option (List ℕ)) → 
 name_here p x qs (Some n) e rest l = record {
   path = x;
   named = ap is_some e;
-  among = ap (λ b. b || list_any (eq_by_cmp path_cmp x) qs) (sym (path_cmp_ties x x) ∙ itself x);
+  among = ap (λ b. b || list_any (eq_by_cmp path_cmp x) qs) (sym (path_cmp_ties x x) ∙ at_itself x);
 }
 name_here p x qs None e rest l =
     let r = rest l in record { path = r.path; named = r.named; among = or_right (eq_by_cmp path_cmp r.path x) _ r.among }

@@ -19,8 +19,11 @@ use Rattle.level_work.specs.declared.items.Order.TheVariants as order
 use Rattle.tree_remove.specs.PrivateDeeds.{Removal}
 use Rattle.tree_remove.specs.Removing.{WasChosen, HasUnder, NothingUnder}
 use Rattle.tree_remove.proofs.Answers.{IsOdd, dir_goes, dir_full, file_full, dir_odd, file_odd, no_far, far_or_some}
-use Rattle.tree_remove.proofs.Frames.{get_here, get_with, itself, removed_here}
+use Rattle.tree_remove.proofs.Frames.{removed_here}
 use Rattle.tree_remove.proofs.Names.{some_under}
+use Rattle.level_work.proofs.Frames.{get_here}
+use Rattle.level_work.proofs.Stages.{get_with}
+use Rattle.outside.proofs.Saved.{at_itself}
 
 -- all that a path is under is a directory
 abbrev pub AreUnderDirs : Files → Type 0
@@ -65,7 +68,7 @@ no_dir_near (Some n) h = by n.body h
 here : (x : Item) (before after : Files) → get (was x before after) x.path ≡ get before x.path
 here x before after =
     get_with x.path (get before x.path) (at_and_under x.path after) x.path
-    ∙ ap (λ b. cond b (get before x.path) (get (at_and_under x.path after) x.path)) (itself x.path)
+    ∙ ap (λ b. cond b (get before x.path) (get (at_and_under x.path after) x.path)) (at_itself x.path)
 
 -- where a path is gone, nothing is under it
 bare : (after : Files) (p : List ℕ) → AreUnderDirs after → refusal p ≡ None → get after p ≡ None → NothingUnder after p

@@ -5,7 +5,6 @@ use Rattle.std.specs.Prelude.{◌==◌}
 use Rattle.std.specs.FinMap.{get}
 use Rattle.std.specs.Cmp.Lexicographic.{pointwise, bytes_decides}
 use Rattle.std.proofs.lemmas.Bool.{false≢true}
-use Rattle.std.proofs.lemmas.Bool.Decides.{nat_tests}
 use Rattle.outside.specs.Tree.{Files, content}
 use Rattle.outside.specs.declared.trees.Kind.{Kind}
 use Rattle.outside.specs.declared.trees.Kind.TheVariants as kind
@@ -16,6 +15,8 @@ use Rattle.tree_cmp.specs.declared.rows.Two.{Two}
 use Rattle.tree_cmp.specs.declared.rows.Two.TheVariants as two
 use Rattle.tree_cmp.specs.Rows.{IsContent, are_files, are_links, is_read, same_bytes, sizes, texts, two_of}
 use Rattle.tree_sync.specs.Syncing.{is_common}
+use Rattle.tree_cmp.proofs.OneRow.{same_number}
+use Rattle.tree_remove.proofs.Answers.{no_far}
 
 common_of : (b : Bool) → is_common (two_of b) ≡ true → b ≡ true
 common_of true e = refl
@@ -24,12 +25,6 @@ common_of false e = absurd (false≢true e)
 empty : (bytes : List ℕ) → length bytes ≡ 0 → bytes ≡ []
 empty [] e = refl
 empty (b ∷ bytes) e = absurd (omega (arith, e))
-
-is_zero : (n : ℕ) → (n == 0) ≡ true → n ≡ 0
-is_zero n e = grind (arith, nat_tests)
-
-pub same_size : (a b : ℕ) → (a == b) ≡ true → a ≡ b
-same_size a b e = grind (arith, nat_tests)
 
 -- two entries with the stats of two kinds, and the content that a row has for them
 pub record Pairs (files : Files) (missed : Bool) (x y : Entry) (j k : Kind) (c : Two) : Type 0 where
@@ -83,9 +78,9 @@ module _ (files : Files) (missed : Bool) (x y : Entry) (c : Two) where
       by : (e z : Bool) → (p.one.size == p.two.size) ≡ e → (p.one.size == 0) ≡ z → content (get files x.path) ≡ content (get files y.path)
       by true false e z = read (read_is kind.File kind.File p ∙ (λ i. e i && not (z i))) missed refl
       by true true e z =
-          let none : p.one.size ≡ 0 = is_zero p.one.size z in
+          let none : p.one.size ≡ 0 = no_far p.one.size z in
           empty (content (get files x.path)) (sym size_one ∙ none)
-          ∙ sym (empty (content (get files y.path)) (sym size_two ∙ sym (same_size p.one.size p.two.size e) ∙ none))
+          ∙ sym (empty (content (get files y.path)) (sym size_two ∙ sym (same_number p.one.size p.two.size e) ∙ none))
       by false z e f = absurd (false≢true (sym e ∙ sized (read_is kind.File kind.File p ∙ ap (λ b. b && not (p.one.size == 0)) e)))
 
   -- the content of two links is that of their texts

@@ -44,12 +44,7 @@ use Rattle.tree_sync.proofs.Fits.{agreed}
 use Rattle.tree_sync.proofs.Members.{in_kept, in_map, next, of_kept, one_off, some_on}
 use Rattle.tree_sync.proofs.Named.{NotNamed, RowAt, fate_in, not_hidden, row_there}
 use Rattle.tree_sync.proofs.Sided.{Has, HasEntry, IsTold, Stands, TextTold, all_told, entry_of, has_at, has_node, if_some, some_of, stands_at, valid_of}
-
-none_some : {X : Type 0} (x : X) → None ≡ Some x → ⊥
-none_some x e = absurd (cc)
-
-same_some : {X : Type 0} (x y : X) → Some x ≡ Some y → x ≡ y
-same_some x y e = cc
+use Rattle.tree_cmp.proofs.Passing.{some_same, none_some}
 
 -- a path that a test of the paths finds is in a row
 path_in : (q : List ℕ) (rows : List (List ℕ × Fate)) → list_any (pointwise nat_eq q) (map (λ row. row.0) rows) ≡ true →
@@ -64,7 +59,7 @@ path_in q (row ∷ rows) e =
 
 -- the node of a path is one
 stat_node : (files : Files) (q : List ℕ) (st : Stat) (n : Node) → Stands files q st → get files q ≡ Some n → stat_of n ≡ st
-stat_node files q st n s at = ap stat_of (same_some n s.node (sym at ∙ s.there)) ∙ s.stat
+stat_node files q st n s at = ap stat_of (some_same n s.node (sym at ∙ s.there)) ∙ s.stat
 
 module _ (law : NodesHavePaths) (pair : Pair) (source dest : List Entry) (delete : Bool) (done : Results) (before mid after : Files)
     (w : WasSynced pair source dest delete done before after)
@@ -253,8 +248,8 @@ module _ (law : NodesHavePaths) (pair : Pair) (source dest : List Entry) (delete
   kept row st n at own here agree =
       let a = agreed (Some st) row agree in
       let b = have_both pair source dest delete found before mid removal p row v at a.both a.kinds in
-      let one : b.one ≡ st = same_some b.one st (sym (ap stat_at b.left.at ∙ b.left.stat) ∙ own) in
-      let same : b.source.node ≡ n = same_some b.source.node n (sym b.source.there ∙ here) in
+      let one : b.one ≡ st = some_same b.one st (sym (ap stat_at b.left.at ∙ b.left.stat) ∙ own) in
+      let same : b.source.node ≡ n = some_same b.source.node n (sym b.source.there ∙ here) in
       let off = no_target (λ e is t below_p.
       let some = and_parts (is_some e.stat) (not (agrees e.stat (row_at found.rows (below e)))) is in
       let stat : e.stat ≡ Some st = sym (own_stat e t some.0 below_p) ∙ ap (option_map stat_of) b.source.there ∙ ap Some (b.source.stat ∙ one) in
@@ -447,7 +442,7 @@ module _ (law : NodesHavePaths) (pair : Pair) (source dest : List Entry) (delete
       by : (s t : Option Node) → get after sp ≡ s → get after tp ≡ t → IsEqual delete s t
       by (Some n) None at bt = absurd (let c = has_copy n (sym same_source ∙ at) in none_some c.node (sym bt ∙ c.there))
       by (Some n) (Some m) at bt =
-          let c = has_copy n (sym same_source ∙ at) in subst (AreAlike n) (same_some c.node m (sym c.there ∙ bt)) c.alike
+          let c = has_copy n (sym same_source ∙ at) in subst (AreAlike n) (some_same c.node m (sym c.there ∙ bt)) c.alike
       by None None at bt = tt
       by None (Some m) at bt = more delete refl
         where

@@ -1,7 +1,7 @@
 mod After
 mod Alike
 mod Apart
-mod Both
+pub mod Both
 mod Contents
 mod Cursor
 mod Equal

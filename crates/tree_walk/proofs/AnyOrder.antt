@@ -1,11 +1,10 @@
 -- Whatever handled the paths, and in which order: the entries, put in path order, are the recursive walk.
 use Rattle.std.proofs.Common.{◌≡◌, ℕ, ◌<◌, List, [], ◌∷◌, map, length, refl, ap, ◌∙◌, sym, arith, cond}
-use Rattle.std.specs.List.{AllByRecursion, sum_by, flat_map}
+use Rattle.std.specs.List.{AllByRecursion, flat_map}
 use Rattle.std.specs.FinMap.{get}
 use Rattle.std.specs.List.Sorted.{IsStrictlySortedBy, IsPermutation}
 use Rattle.std.specs.declared.cmp.Ordering.TheVariants.{Less}
 use Rattle.std.specs.Cmp.Lexicographic.{nat_list_eq_equiv}
-use Rattle.std.proofs.lemmas.List.Sums.{sum_by-cons}
 use Rattle.std.proofs.lemmas.List.Sorted.{sum_by-IsPermutation, IsPermutation-sym, All-permutation}
 use Rattle.std.proofs.lemmas.List.Elements.{recursion_from_All, All-from_recursion}
 use Rattle.path_text.specs.Order.{path_cmp}
@@ -15,11 +14,13 @@ use Rattle.circle_run.specs.Balance.{Balanced}
 use Rattle.tree_walk.specs.Walk.{Answers, answer_in, answers_in, entry_of, walk, paths_of}
 use Rattle.tree_walk.specs.Held.{Held, IsDone, log_of, entries_of}
 use Rattle.tree_walk.proofs.Lined.{Lined}
-use Rattle.tree_walk.proofs.Once.{IsGathered, list_rises, as_often, sum_by-map}
+use Rattle.tree_walk.proofs.Once.{IsGathered, list_rises, as_often}
 use Rattle.tree_walk.proofs.Covers.{covers, lined, from_apart}
 use Rattle.tree_walk.proofs.Often.{often}
 use Rattle.tree_walk.proofs.Lawful.{walks_ascend, walks_own, IsOwn}
 use Rattle.tree_walk.proofs.Same.{same_paths, unequal}
+use Rattle.circle_run.proofs.Sums.{sum_by-ones}
+use Rattle.circle_run.proofs.Maps.{sum_by-map}
 
 -- ---- the failed answers that a list with each path once tells
 
@@ -72,13 +73,9 @@ by_path F es fs h g e = each es h ∙ ap (map F) e ∙ sym (each fs g)
 
 -- ---- where there is a start something was looked at
 
-pub ones : {X : Type 0} (xs : List X) → sum_by (λ x. 1) xs ≡ length xs
-ones [] = refl
-ones {X = X} (x ∷ xs) = omega (arith, sum_by-cons (λ (x : X). 1) x xs, ones xs)
-
 pub valid_files : (files : Files) (ds : List Held) (starts : List (List ℕ)) → AllByRecursion (IsDone files) ds → Balanced (log_of ds) [] starts →
     0 < length starts → IsTree files
-valid_files files [] starts h b some = absurd (omega (arith, b.weighs (λ p. 1), ones starts, some))
+valid_files files [] starts h b some = absurd (omega (arith, b.weighs (λ p. 1), sum_by-ones starts, some))
 valid_files files (d ∷ ds) starts h b some = h.0.valid
 
 walks_rise : (files : Files) (a : Answers) (ordered : List (List ℕ)) → (0 < length ordered → IsTree files) → Lined ordered →

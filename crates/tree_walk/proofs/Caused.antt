@@ -23,7 +23,7 @@ use Rattle.tree_walk.specs.Held.{is_listed}
 use Rattle.tree_walk.specs.Looking.{by_stat, by_link, by_list, is_linked}
 use Rattle.tree_walk.specs.Answered.{IsAnswered}
 use Rattle.tree_walk.proofs.AnyOrder.{moved}
-use Rattle.tree_walk.proofs.Lists.{all_append}
+use Rattle.flat_list.proofs.Pieces.{all_join}
 
 -- no mark but a fine one has a target
 off : (b : Bool) → (b && false) ≡ true → ⊥
@@ -103,7 +103,7 @@ more_answered gives items logs logs' log e h one =
     let P = IsAnswered gives in
     subst (λ l. AllByRecursion P (flat_map items l)) (sym e)
     (subst (AllByRecursion P) (sym (flat_map-append items logs (log ∷ [])))
-    (all_append P (flat_map items logs) (items log ++ []) h (all_append P (items log) [] one tt)))
+    (all_join P (flat_map items logs) (items log ++ []) h (all_join P (items log) [] one tt)))
 
 -- the entries of all logs are those of the list
 pub all_answered : {S : Type 0} (gives : Asks S) (logs list : List Entry) → IsPermutation logs list → AllByRecursion (IsAnswered gives) logs →

@@ -22,13 +22,13 @@ use Rattle.outside.specs.Parts.{IsPart, AreTops}
 use Rattle.outside.proofs.Names.{placed_path}
 use Rattle.outside.proofs.Children.{child_is}
 use Rattle.outside.proofs.Parents.{child_of_parent}
-use Rattle.outside.proofs.Leased.{get_part}
+use Rattle.outside.proofs.Leased.{get_part, dir_is_there}
 use Rattle.outside.proofs.PartTrees.{leases_keep_trees}
 use Rattle.entry_pages.specs.declared.entries.Entry.{Entry}
 use Rattle.tree_walk.specs.Walk.{Answer, told, stat_failed, list_failed, Answers, is_told, entry_of, children_of, walk, paths_of, WalkListsAll}
 use Rattle.tree_walk.proofs.Recursive.{walk_is, children_are, children_short}
 use Rattle.tree_walk.proofs.Lawful.{path_is}
-use Rattle.tree_walk.proofs.Nodes.{not_none, some_dir}
+use Rattle.tree_walk.proofs.Nodes.{not_none}
 use Rattle.tree_walk.proofs.Standing.{In}
 
 -- an entry of the list has the path
@@ -216,12 +216,12 @@ module _ (files : Files) (a : Answers) (t : IsTree files) where
         below off =
             let d : is_dir (get (leased tops files) p) ≡ true =
             not_left (is_top (under tops) q) (is_dir (get (leased tops files) p)) (ap (λ b. b || false) off) (part.parents q here_some) in
-            let within : is_within p root ≡ true = sym (or_false (is_within p root)) ∙ part.inside p (some_dir (get (leased tops files) p) d) in
+            let within : is_within p root ≡ true = sym (or_false (is_within p root)) ∙ part.inside p (dir_is_there (get (leased tops files) p) d) in
             let dir : is_dir (get files p) ≡ true = ap is_dir (sym (in_part p within)) ∙ d in
             let no = part.no_root q here_some in
             let over : is_under q p ≡ true = parent_under q (valid q some) no in
             let further : OnTheWay p = λ x u w. way x (under_up q p x over u) w in
-            let above = up p (parent_above q (valid q some) no) within (some_dir (get files p) dir) further in
+            let above = up p (parent_above q (valid q some) no) within (dir_is_there (get files p) dir) further in
             closed 4096 root p q (short root fine) (omega arith) (way p over within) above (child q some (valid q some) no dir)
 
     lists : (n : ℕ) (q : List ℕ) → level_of q ≤ n → is_within q root ≡ true → is_some (get files q) ≡ true → OnTheWay q → Has (walk files a root) q

@@ -12,11 +12,10 @@ use Rattle.std.specs.declared.cmp.Ordering.{Ordering}
 use Rattle.std.specs.declared.cmp.Ordering.TheVariants.{Less}
 use Rattle.std.specs.List.Sorted.{IsStrictlySortedBy}
 use Rattle.path_text.specs.Order.{path_cmp, byte_rank, front}
-use Rattle.path_text.proofs.Preorder.{before_all, precedes}
+use Rattle.path_text.proofs.Preorder.{before_all, precedes, front_of_child}
 use Rattle.path_text.specs.Path.{joined}
 use Rattle.tree_walk.specs.Roots.{is_in, is_in_some, Apart}
 use Rattle.tree_walk.proofs.Lined.{Lined}
-use Rattle.tree_walk.proofs.Names.{front_of_child}
 use Rattle.tree_walk.proofs.Inside.{begins, begins-itself, begins-less, begins-length, at_or_under, is_in_is}
 
 -- whether x is the path p or under it, as a number

@@ -24,11 +24,14 @@ use Rattle.tree_walk.specs.Roots.{is_in, is_in_some, Apart}
 use Rattle.tree_walk.specs.Cut.{IsCut, IsCutFound, IsTooMany, IfCut, log_by, found_in}
 use Rattle.flat_list.specs.Spelling.{max_entries}
 use Rattle.tree_walk.specs.Found.{IsFound}
-use Rattle.tree_walk.proofs.Lists.{all_append, all_map}
+use Rattle.tree_walk.proofs.Lists.{all_map}
 use Rattle.tree_walk.proofs.Inside.{at_or_under, is_in_is}
 use Rattle.tree_walk.proofs.Covers.{covers, covers-itself, one, from_apart, to_apart, some_covers}
-use Rattle.tree_walk.proofs.Once.{IsGathered, covered, as_often, each_here, list_within, sum_by-map}
+use Rattle.tree_walk.proofs.Once.{IsGathered, covered, as_often, each_here, list_within}
 use Rattle.tree_walk.proofs.AnyOrder.{moved, to_entries}
+use Rattle.std.proofs.lemmas.List.{nil_from_length}
+use Rattle.circle_run.proofs.Maps.{sum_by-map}
+use Rattle.flat_list.proofs.Pieces.{all_join}
 
 abbrev pub kids : Files → Entry → List (List ℕ)
 kids files e = children_of (answer_in e) files e.path
@@ -118,7 +121,7 @@ all_within ds list left starts h =
     let of_left = all_weaker (λ q. 1 ≤ sum_by (covers q) left) Within
     (λ q n. some_covers q starts (omega (arith, n, covered q ds left starts h.pushes h.balance))) left (each_covered left) in
     All-from_recursion Within (paths_of list ++ left)
-    (all_append Within (paths_of list) left (all_map Within (λ (e : Entry). e.path) list (list_within ds list left starts h)) of_left)
+    (all_join Within (paths_of list) left (all_map Within (λ (e : Entry). e.path) list (list_within ds list left starts h)) of_left)
 
 -- ---- whether any rank has a string left
 
@@ -128,17 +131,13 @@ is_none n e = grind (arith, nat_tests)
 is_some : (n : ℕ) → (n == 0) ≡ false → 0 < n
 is_some n e = grind (arith, nat_tests)
 
-no_items : {X : Type 0} (xs : List X) → length xs ≡ 0 → xs ≡ []
-no_items [] h = refl
-no_items (x ∷ xs) h = absurd (omega (arith, h))
-
 pub nothing_left : (xs : List (Vec (List ℕ) Global)) → AllWithin (λ list. (vec_len list == 0) ≡ true) xs 0 (length xs) → all_left xs ≡ []
 nothing_left xs h =
     each xs (recursion_from_All (λ (list : Vec (List ℕ) Global). (vec_len list == 0) ≡ true) xs (λ k d l. h k d (omega arith) l))
   where
     each : (xs : List (Vec (List ℕ) Global)) → AllByRecursion (λ list. (vec_len list == 0) ≡ true) xs → all_left xs ≡ []
     each [] h = refl
-    each (x ∷ xs) h = λ i. no_items x.items (sym x.ok.0 ∙ is_none (vec_len x) h.0) i ++ each xs h.1 i
+    each (x ∷ xs) h = λ i. nil_from_length x.items (sym x.ok.0 ∙ is_none (vec_len x) h.0) i ++ each xs h.1 i
 
 pub some_left : (xs : List (Vec (List ℕ) Global)) (k : ℕ) → k < length xs → HoldsAt (λ list. (vec_len list == 0) ≡ false) xs k → 0 < length (all_left xs)
 some_left [] k l h = absurd (omega (arith, l))

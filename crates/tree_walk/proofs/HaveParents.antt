@@ -18,9 +18,10 @@ use Rattle.entry_pages.specs.declared.entries.Entry.{Entry}
 use Rattle.entry_pages.specs.Entries.{is_kind, is_of}
 use Rattle.tree_walk.specs.Walk.{Answer, told, stat_failed, list_failed, Answers, entry_of, children_of, walk_down, walk}
 use Rattle.tree_walk.specs.Told.{has_dir, EntriesHaveParents}
-use Rattle.tree_walk.proofs.Nodes.{not_none, some_dir}
+use Rattle.tree_walk.proofs.Nodes.{not_none}
 use Rattle.tree_walk.proofs.Lawful.{path_is}
-use Rattle.tree_walk.proofs.Lists.{all_append}
+use Rattle.outside.proofs.Leased.{dir_is_there}
+use Rattle.flat_list.proofs.Pieces.{all_join}
 
 -- the test of a directory's entry at a path
 abbrev dir_at : List ℕ → Entry → Bool
@@ -58,7 +59,7 @@ kids files (told u) p t =
     let names = names_in files p in
     let valid = recursion_from_All (λ n. IsTrue (is_name n)) names (children_are_names files p t).valid in
     elim (is_dir (get files p)) as (λ b. is_dir (get files p) ≡ b → AllByRecursion (IsKid (told u) (get files p) p) (cond b (map (joined p) names) [])) [
-      | true ↦ λ d. kids_of u (get files p) p (placed_path files p t (not_none (get files p) (some_dir (get files p) d))) d names valid
+      | true ↦ λ d. kids_of u (get files p) p (placed_path files p t (not_none (get files p) (dir_is_there (get files p) d))) d names valid
       | false ↦ λ _. tt
     ] refl
 
@@ -95,7 +96,7 @@ module _ (files : Files) (a : Answers) (t : IsTree files) where
       rest sub (c ∷ cs) h into =
           let here = walk_down n files a c in
           let more = flat_map (walk_down n files a) cs in
-          all_append (Comes (top ∷ below) p) here more
+          all_join (Comes (top ∷ below) p) here more
           (all_weaker (Comes here c) (Comes (top ∷ below) p)
           (λ e. ⊎_elim (λ is. inr (subst (λ q. has_dir (top ∷ below) (parent_of q) ≡ true) (sym is) (top_is c h.0)))
           (λ has. inr (into (parent_of e.path) (has_left here more (parent_of e.path) has))))
@@ -113,7 +114,7 @@ module _ (files : Files) (a : Answers) (t : IsTree files) where
   come (r ∷ rs) =
       let here = walk_down (4096 - length r) files a r in
       let more = flat_map (λ q. walk_down (4096 - length q) files a q) rs in
-      all_append _ here more
+      all_join _ here more
       (all_weaker (Comes here r) (λ e. IsIn (r ∷ rs) e.path ⊎ (has_dir (here ++ more) (parent_of e.path) ≡ true))
       (λ e. ⊎_elim (λ is. inl (or_left (pointwise nat_eq e.path r) (list_any (pointwise nat_eq e.path) rs) ((bytes_decides e.path r).1 is)))
       (λ has. inr (has_left here more (parent_of e.path) has))) here (down (4096 - length r) r))

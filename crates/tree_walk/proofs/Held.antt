@@ -12,7 +12,7 @@ use Rattle.tree_walk.specs.Held.{Held, IsDone, IsPush, Holds, held_of, is_listed
 use Rattle.tree_walk.specs.Walk.{weight_of}
 use Rattle.tree_walk.specs.Looking.{IsLook}
 use Rattle.entry_pages.specs.Entries.{is_shaped}
-use Rattle.tree_walk.proofs.Lists.{all_append}
+use Rattle.flat_list.proofs.Pieces.{all_join}
 
 abbrev listed : Entry → ℕ
 listed x = cond (is_listed x) 1 0
@@ -48,7 +48,7 @@ held_alone (d ∷ es) ls e t =
     ap (λ r. (d, cond (is_listed d) (map (joined d.path) (first_names ls)) []) ∷ r) (held_alone es (cond (is_listed d) (drop 1 ls) ls) e t)
 
 all_push : {X : Type 0} (P : X → Type 0) (xs : List X) (x : X) → AllByRecursion P xs → P x → AllByRecursion P (xs ++ x ∷ [])
-all_push P xs x h g = all_append P xs (x ∷ []) h (g, tt)
+all_push P xs x h g = all_join P xs (x ∷ []) h (g, tt)
 
 told_push : (tree : Option Files) (ds : List Held) (d : Held) → IfSome tree (λ files. AllByRecursion (IsDone files) ds) →
     IfSome tree (λ files. IsDone files d) → IfSome tree (λ files. AllByRecursion (IsDone files) (ds ++ d ∷ []))

@@ -37,7 +37,7 @@ too_long f z l = elim (begins f z) as (λ b. begins f z ≡ b → b ≡ false) [
   | false ↦ λ n. refl
 ] refl
 
-is_one : (n : ℕ) → (n == 1) ≡ true → n ≡ 1
+pub is_one : (n : ℕ) → (n == 1) ≡ true → n ≡ 1
 is_one n e = grind (arith, nat_tests)
 
 by_front : (x p : List ℕ) → 2 ≤ length p → begins (p ++ 47 ∷ []) (front x) ≡ (begins p x && AtEnd x p)

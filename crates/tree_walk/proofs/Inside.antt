@@ -1,5 +1,5 @@
 -- A path is in another: it is that path, or under it.
-use Rattle.std.proofs.Common.{◌≡◌, ℕ, ◌≤◌, Bool, true, false, ◌&&◌, List, [], ◌∷◌, ◌++◌, length, suc, cond, refl, ap, ◌∙◌, sym, arith, eqb, length-append, None}
+use Rattle.std.proofs.Common.{◌≡◌, ℕ, ◌≤◌, Bool, true, false, ◌&&◌, List, [], ◌∷◌, ◌++◌, length, refl, ap, ◌∙◌, sym, arith, eqb, length-append, None}
 use Rattle.std.specs.Prelude.{◌==◌}
 use Rattle.std.specs.List.{starts_with}
 use Rattle.std.proofs.lemmas.Bool.{false≢true, and_parts}
@@ -7,6 +7,7 @@ use Rattle.std.proofs.lemmas.Bool.Decides.{nat_tests}
 use Rattle.path_text.specs.Path.{refusal}
 use Rattle.path_text.specs.Order.{front}
 use Rattle.tree_walk.specs.Roots.{is_in}
+use Rattle.path_text.proofs.Parts.{front_long}
 
 -- ---- lists that begin with a list
 
@@ -75,23 +76,17 @@ more_behind (c ∷ x) (d ∷ y) b e =
     let rest = more_behind x y b behind in
     λ i. first i ∷ rest i
 
-pub front_of_two : (a b : ℕ) (x : List ℕ) → front (a ∷ b ∷ x) ≡ (a ∷ b ∷ x) ++ 47 ∷ []
-front_of_two a b x = ap (λ q. cond q (a ∷ b ∷ x) ((a ∷ b ∷ x) ++ 47 ∷ [])) (not_one (length x))
-  where
-    not_one : (n : ℕ) → (suc (suc n) == 1) ≡ false
-    not_one n = grind (arith, nat_tests)
-
 pub front_same : (x y : List ℕ) → refusal x ≡ None → refusal y ≡ None → front x ≡ front y → x ≡ y
 front_same [] y v w e = absurd (cc)
 front_same (a ∷ x) [] v w e = absurd (cc)
 front_same (a ∷ []) (b ∷ []) v w e = e
 front_same (a ∷ []) (b ∷ d ∷ y) v w e =
-    let same : a ∷ [] ≡ b ∷ d ∷ (y ++ 47 ∷ []) = e ∙ front_of_two b d y in
+    let same : a ∷ [] ≡ b ∷ d ∷ (y ++ 47 ∷ []) = e ∙ front_long b d y in
     absurd (omega (arith, ap length same))
 front_same (a ∷ c ∷ x) (b ∷ []) v w e =
-    let same : a ∷ c ∷ (x ++ 47 ∷ []) ≡ b ∷ [] = sym (front_of_two a c x) ∙ e in
+    let same : a ∷ c ∷ (x ++ 47 ∷ []) ≡ b ∷ [] = sym (front_long a c x) ∙ e in
     absurd (omega (arith, ap length same))
-front_same (a ∷ c ∷ x) (b ∷ d ∷ y) v w e = more_behind (a ∷ c ∷ x) (b ∷ d ∷ y) 47 (sym (front_of_two a c x) ∙ e ∙ front_of_two b d y)
+front_same (a ∷ c ∷ x) (b ∷ d ∷ y) v w e = more_behind (a ∷ c ∷ x) (b ∷ d ∷ y) 47 (sym (front_long a c x) ∙ e ∙ front_long b d y)
 
 -- ---- paths
 

@@ -26,9 +26,10 @@ use Rattle.tree_walk.proofs.Lined.{Lined}
 use Rattle.tree_walk.specs.Walk.{Answer, told, stat_failed, list_failed, Answers, all_told, entry_of, children_of, walk_down, walk, paths_of, weight}
 use Rattle.tree_walk.specs.Walk.{weight_of, answer_in, answers_in, WalkIsRecursive, WalkAscends, WalkHasEachPathOnce, WalkFindsAll, WalkWithoutFaultsIsFine}
 use Rattle.tree_walk.proofs.Nodes.{not_none}
-use Rattle.tree_walk.proofs.Lists.{all_append, all_map, all_flat, sorted_append, swapped}
+use Rattle.tree_walk.proofs.Lists.{all_map, all_flat, sorted_append, swapped}
 use Rattle.tree_walk.proofs.Same.{unequal}
 use Rattle.tree_walk.proofs.Recursive.{walk_is, children_are, of_children}
+use Rattle.flat_list.proofs.Pieces.{all_join}
 
 pub walk_is_recursive : WalkIsRecursive
 walk_is_recursive files a path t v = walk_is files a path t (parts.short path v)
@@ -87,7 +88,7 @@ flat_after files a t n x [] h = tt
 flat_after files a t n x (c ∷ cs) h =
     let w = λ (c : List ℕ). walk_down (n c) files a c in
     subst (AllByRecursion (λ y. path_cmp x y ≡ Less)) (sym (paths_append (w c) (flat_map w cs)))
-    (all_append (λ y. path_cmp x y ≡ Less) (paths_of (w c)) (paths_of (flat_map w cs)) (walk_after files a t (n c) x c h.0) (flat_after files a t n x cs h.1))
+    (all_join (λ y. path_cmp x y ≡ Less) (paths_of (w c)) (paths_of (flat_map w cs)) (walk_after files a t (n c) x c h.0) (flat_after files a t n x cs h.1))
 
 flat_ascend : (files : Files) (a : Answers) → IsTree files → (n : List ℕ → ℕ) →
     ((c : List ℕ) → IsStrictlySortedBy path_cmp (paths_of (walk_down (n c) files a c))) →
@@ -219,7 +220,7 @@ walks_find_all : (files : Files) (roots : List (List ℕ)) → IsTree files → 
 walks_find_all files [] t h = tt
 walks_find_all files (root ∷ roots) t h =
     let v = placed_path files root t (not_none (get files root) h.0) in
-    all_append IsFine (walk files all_told root) (flat_map (walk files all_told) roots)
+    all_join IsFine (walk files all_told root) (flat_map (walk files all_told) roots)
     (recursion_from_All IsFine (walk files all_told root) (walk_finds_all files root t v h.0)) (walks_find_all files roots t h.1)
 
 pub none_failed : (answer : Answer) → weight answer ≡ 0 → answer ≡ told 0

@@ -5,10 +5,7 @@ use Rattle.std.specs.List.Sorted.{IsStrictlySortedBy}
 use Rattle.std.specs.declared.cmp.Ordering.{Ordering}
 use Rattle.std.specs.declared.cmp.Ordering.TheVariants.{Less}
 use Rattle.outside.proofs.Names.{all_weaker}
-
-pub all_append : {X : Type 0} (P : X → Type 0) (xs ys : List X) → AllByRecursion P xs → AllByRecursion P ys → AllByRecursion P (xs ++ ys)
-all_append P [] ys h g = g
-all_append P (x ∷ xs) ys h g = (h.0, all_append P xs ys h.1 g)
+use Rattle.flat_list.proofs.Pieces.{all_join}
 
 pub all_parts : {X : Type 0} (P : X → Type 0) (xs ys : List X) → AllByRecursion P (xs ++ ys) → AllByRecursion P xs × AllByRecursion P ys
 all_parts P [] ys h = (tt, h)
@@ -21,7 +18,7 @@ all_map P f (x ∷ xs) h = (h.0, all_map P f xs h.1)
 pub all_flat : {X Y : Type 0} (P : Y → Type 0) (f : X → List Y) (xs : List X) → AllByRecursion (λ x. AllByRecursion P (f x)) xs →
     AllByRecursion P (flat_map f xs)
 all_flat P f [] h = h
-all_flat P f (x ∷ xs) h = all_append P (f x) (flat_map f xs) h.0 (all_flat P f xs h.1)
+all_flat P f (x ∷ xs) h = all_join P (f x) (flat_map f xs) h.0 (all_flat P f xs h.1)
 
 pub flat_same : {X Y : Type 0} (f g : X → List Y) (xs : List X) → AllByRecursion (λ x. f x ≡ g x) xs → flat_map f xs ≡ flat_map g xs
 flat_same f g [] h = refl
@@ -31,7 +28,7 @@ pub sorted_append : {X : Type 0} (cmp : X → X → Ordering) (xs ys : List X) �
     AllByRecursion (λ x. AllByRecursion (λ y. cmp x y ≡ Less) ys) xs → IsStrictlySortedBy cmp (xs ++ ys)
 unfolding IsStrictlySortedBy
 sorted_append cmp [] ys s t h = t
-sorted_append cmp (x ∷ xs) ys s t h = (all_append (λ y. cmp x y ≡ Less) xs ys s.0 h.0, sorted_append cmp xs ys s.1 t h.1)
+sorted_append cmp (x ∷ xs) ys s t h = (all_join (λ y. cmp x y ≡ Less) xs ys s.0 h.0, sorted_append cmp xs ys s.1 t h.1)
 
 pub swapped : {X Y : Type 0} (R : X → Y → Type 0) (xs : List X) (ys : List Y) → AllByRecursion (λ x. AllByRecursion (R x) ys) xs →
     AllByRecursion (λ y. AllByRecursion (λ x. R x y) xs) ys

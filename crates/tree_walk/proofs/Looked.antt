@@ -26,6 +26,8 @@ use Rattle.tree_walk.specs.Walk.{bare, told, list_failed, entry_of, weight_of}
 use Rattle.tree_walk.specs.Held.{IsDone, is_listed}
 use Rattle.tree_walk.specs.Looking.{by_stat, by_link, by_list, is_linked, IsLook}
 use Rattle.tree_walk.proofs.Names.{no_names}
+use Rattle.circle_run.proofs.Hearing.{both_first}
+use Rattle.path_text.proofs.Told.{and_false}
 
 -- an answer of a stat at a path, over files that may tell a tree and whose count of faults went from old to new
 pub record IsStat (tree : Option Files) (path : List ℕ) (old new : ℕ) (answer : Result (Option Stat) Failed) : Type 0 where
@@ -56,14 +58,6 @@ sized kind.File n h = refl
 sized kind.Dir n h = ap (λ m. m == 0) (h (λ e. cc))
 sized kind.Link n h = ap (λ m. m == 0) (h (λ e. cc))
 sized kind.Other n h = ap (λ m. m == 0) (h (λ e. cc))
-
-first : (a b : Bool) → (a && b) ≡ true → a ≡ true
-first true b e = refl
-first false b e = absurd (false≢true e)
-
-and_false : (b : Bool) → (b && false) ≡ false
-and_false true = refl
-and_false false = refl
 
 -- ---- what the tree has
 
@@ -256,7 +250,7 @@ stat_and_link tree path old mid new (Ok None) text s g l = absurd (false≢true 
 stat_and_link tree path old mid new (Ok (Some stat)) text s g l = by text g
   where
     is : is_kind kind.Link stat.kind ≡ true
-    is = first (is_kind kind.Link stat.kind) true l
+    is = both_first (is_kind kind.Link stat.kind) true l
 
     size : (is_kind kind.File stat.kind || stat.size == 0) ≡ true
     size = sized stat.kind stat.size s.size
@@ -320,7 +314,7 @@ stat_and_list tree path old mid new (Ok None) names s g l = absurd (false≢true
 stat_and_list tree path old mid new (Ok (Some stat)) names s g l = by names g
   where
     is : is_kind kind.Dir stat.kind ≡ true
-    is = first (is_kind kind.Dir stat.kind) true l
+    is = both_first (is_kind kind.Dir stat.kind) true l
 
     size : (is_kind kind.File stat.kind || stat.size == 0) ≡ true
     size = sized stat.kind stat.size s.size

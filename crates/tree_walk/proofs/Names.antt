@@ -1,5 +1,5 @@
 -- Paths of children, as they follow from the names in a directory.
-use Rattle.std.proofs.Common.{◌≡◌, ℕ, ◌<◌, ◌≤◌, true, false, List, [], ◌∷◌, ◌++◌, length, map, ap, sym, subst, arith, cond, length-append, append_assoc, ◌∙◌}
+use Rattle.std.proofs.Common.{◌≡◌, ℕ, ◌<◌, ◌≤◌, true, false, List, [], ◌∷◌, ◌++◌, length, map, ap, sym, subst, arith, cond, length-append}
 use Rattle.std.specs.Prelude.{◌==◌}
 use Rattle.std.specs.Bool.{IsTrue}
 use Rattle.std.specs.List.{AllByRecursion}
@@ -7,11 +7,10 @@ use Rattle.std.specs.List.Sorted.{IsStrictlySortedBy}
 use Rattle.std.specs.Ordering.{nat_cmp}
 use Rattle.std.specs.Cmp.Lexicographic.{slice_cmp}
 use Rattle.std.specs.declared.cmp.Ordering.TheVariants.{Less}
-use Rattle.std.proofs.lemmas.Bool.Decides.{nat_tests}
 use Rattle.std.proofs.lemmas.List.Elements.{recursion_from_All, All-from_recursion}
 use Rattle.path_text.specs.Order.{path_cmp, front}
 use Rattle.path_text.specs.Path.{joined, is_name}
-use Rattle.path_text.proofs.Preorder.{precedes, front-joined, child_after, child_precedes, sibling_precedes, some_bytes, no_slash, some_front}
+use Rattle.path_text.proofs.Preorder.{precedes, front-joined, child_after, child_precedes, sibling_precedes, some_bytes, no_slash}
 use Rattle.outside.specs.Tree.{AreNames}
 use Rattle.outside.proofs.Names.{all_weaker}
 use Rattle.tree_walk.proofs.Lined.{Lined, AreChildren}
@@ -67,14 +66,3 @@ no_names path names e =
       short = All-from_recursion (λ n. length (joined path n) ≤ 4095) [] tt;
       ascend = tt;
     })
-
--- ---- what the paths under a child begin with
-
-not_one : (n : ℕ) → 1 < n → (n == 1) ≡ false
-not_one n h = grind (arith, nat_tests)
-
-pub front_of_child : (p name : List ℕ) → 0 < length name → front (joined p name) ≡ front p ++ (name ++ 47 ∷ [])
-front_of_child p name h =
-    let long : 1 < length (joined p name) = omega (arith, sym (ap length (front-joined p name)), length-append (front p) name, some_front p) in
-    ap (λ b. cond b (joined p name) (joined p name ++ 47 ∷ [])) (not_one (length (joined p name)) long)
-    ∙ ap (λ l. l ++ 47 ∷ []) (sym (front-joined p name)) ∙ append_assoc (front p) name (47 ∷ [])

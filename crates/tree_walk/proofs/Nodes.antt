@@ -2,12 +2,8 @@
 use Rattle.std.proofs.Common.{◌≡◌, true, false, Option, Some, None, refl}
 use Rattle.std.specs.Prelude.{is_some, is_none}
 use Rattle.std.proofs.lemmas.Bool.{false≢true}
-use Rattle.outside.specs.Tree.{Node, is_dir}
+use Rattle.outside.specs.Tree.{Node}
 
 pub not_none : (o : Option Node) → is_some o ≡ true → is_none o ≡ false
 not_none None e = absurd (false≢true e)
 not_none (Some n) e = refl
-
-pub some_dir : (o : Option Node) → is_dir o ≡ true → is_some o ≡ true
-some_dir None e = absurd (false≢true e)
-some_dir (Some n) e = refl

@@ -2,18 +2,14 @@
 use Rattle.std.proofs.Common.{◌≡◌, ℕ, ◌+◌, List, [], ◌∷◌, refl, ap, ◌∙◌, sym, arith}
 use Rattle.std.specs.List.{AllByRecursion, sum_by, flat_map}
 use Rattle.std.specs.FinMap.{get}
-use Rattle.std.proofs.lemmas.List.Sums.{sum_by-cons, sum_by-append}
+use Rattle.std.proofs.lemmas.List.Sums.{sum_by-cons}
 use Rattle.outside.specs.Tree.{Files}
 use Rattle.entry_pages.specs.declared.entries.Entry.{Entry}
 use Rattle.circle_run.specs.Balance.{handled, pushed, Balanced}
 use Rattle.tree_walk.specs.Walk.{Answers, answer_in, entry_of, children_of, walk}
 use Rattle.tree_walk.specs.Held.{Held, IsDone, log_of}
 use Rattle.tree_walk.proofs.Recursive.{walk_is}
-
-pub sum_by-flat_map : {X Y : Type 0} (k : Y → ℕ) (f : X → List Y) (xs : List X) → sum_by k (flat_map f xs) ≡ sum_by (λ x. sum_by k (f x)) xs
-sum_by-flat_map k f [] = refl
-sum_by-flat_map k f (x ∷ xs) =
-    sum_by-append k (f x) (flat_map f xs) ∙ (λ i. sum_by k (f x) + sum_by-flat_map k f xs i) ∙ sym (sum_by-cons (λ y. sum_by k (f y)) x xs)
+use Rattle.circle_run.proofs.Sums.{sum_by-flat_map}
 
 -- the walk of a path weighs what its entry and the walks of its children weigh
 weighs : (files : Files) (a : Answers) (k : Entry → ℕ) (d : Held) → IsDone files d → a d.0.path ≡ answer_in d.0 →

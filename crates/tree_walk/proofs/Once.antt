@@ -24,6 +24,7 @@ use Rattle.tree_walk.specs.Roots.{is_in_some, Apart}
 use Rattle.tree_walk.proofs.Covers.{covers, one, covers_falls, from_apart, some_covers}
 use Rattle.tree_walk.proofs.Names.{lined_names}
 use Rattle.outside.proofs.Names.{all_weaker}
+use Rattle.circle_run.proofs.Maps.{sum_by-map}
 
 lengths : (names : List (List ℕ)) → AllByRecursion (λ name. IsTrue (is_name name)) names → AllByRecursion (λ n. 0 < length n) names
 lengths [] h = tt
@@ -82,10 +83,6 @@ rises (e ∷ es) s o = sorted_from_all_adjacent path_cmp_total (map (λ (e : Ent
     let other : one x y ≡ 0 = omega (arith, two_places x (e ∷ es) k e n, o x, self) in
     let less : path_cmp x y ≡ Less = not_less x y (s k e (omega arith) n) other in
     (λ i. path_cmp (get_or-map (λ (e : Entry). e.path) (e ∷ es) k e i) (get_or-map (λ (e : Entry). e.path) (e ∷ es) (k + 1) e i)) ∙ less)
-
-pub sum_by-map : {X Y : Type 0} (f : Y → ℕ) (g : X → Y) (xs : List X) → sum_by f (map g xs) ≡ sum_by (λ x. f (g x)) xs
-sum_by-map f g [] = refl
-sum_by-map f g (x ∷ xs) = sum_by-cons f (g x) (map g xs) ∙ (λ i. f (g x) + sum_by-map f g xs i) ∙ sym (sum_by-cons (λ y. f (g y)) x xs)
 
 -- what was handled from the starts on, which are apart, is balanced over what is left; what was pushed are children; and the list is what
 -- was handled, put in path order

@@ -19,7 +19,7 @@ use Rattle.entry_pages.specs.Entries.{is_of}
 use Rattle.tree_walk.specs.Walk.{told, stat_failed, list_failed, Answers, entry_of, entry_of_node, children_of, walk}
 use Rattle.tree_walk.specs.Roots.{is_in}
 use Rattle.tree_walk.specs.Told.{IsTold, ParentsAreListed}
-use Rattle.tree_walk.proofs.Nodes.{not_none, some_dir}
+use Rattle.tree_walk.proofs.Nodes.{not_none}
 use Rattle.tree_walk.proofs.Lists.{all_flat, all_map}
 use Rattle.tree_walk.proofs.Covers.{child_covers, child_not_above}
 use Rattle.tree_walk.proofs.Recursive.{of_children}
@@ -27,6 +27,7 @@ use Rattle.tree_walk.proofs.Lawful.{walk_entries}
 use Rattle.tree_walk.proofs.Inside.{begins-itself, is_in_is, in_itself, in_trans}
 use Rattle.tree_walk.proofs.Standing.{In, Above, only, of_all, each_in}
 use Rattle.tree_walk.proofs.Told.{entries_are_told}
+use Rattle.outside.proofs.Leased.{dir_is_there}
 
 -- ---- nodes of a tree
 
@@ -45,7 +46,7 @@ children_of_listed : (files : Files) (a : Answers) (p : List ℕ) (u : ℕ) → 
     (names : List (List ℕ)) → AllByRecursion (λ n. IsTrue (is_name n)) names → AllByRecursion (IsChild files a) (map (joined p) names)
 children_of_listed files a p u t e d [] v = tt
 children_of_listed files a p u t e d (n ∷ names) v =
-    let same = parent_joined p n (path_of_node files p t (some_dir (get files p) d)) (no_slash n v.0) in (
+    let same = parent_joined p n (path_of_node files p t (dir_is_there (get files p) d)) (no_slash n v.0) in (
       record { unnamed = u; answer = ap a same ∙ e; dir = ap (λ q. is_dir (get files q)) same ∙ d },
       children_of_listed files a p u t e d names v.1,
     )

@@ -22,9 +22,11 @@ use Rattle.tree_walk.specs.Held.{Held, IsDone, IsPush, Holds, log_of, entries_of
 use Rattle.tree_walk.specs.Found.{IsFound, IsWalkOf}
 use Rattle.tree_walk.specs.Cut.{IsCut, IsCutFound}
 use Rattle.tree_walk.proofs.Lists.{all_flat}
-use Rattle.tree_walk.proofs.Once.{IsGathered, list_rises, list_within, sum_by-map}
-use Rattle.tree_walk.proofs.AnyOrder.{whole, valid_files, moved, to_entries, ones}
+use Rattle.tree_walk.proofs.Once.{IsGathered, list_rises, list_within}
+use Rattle.tree_walk.proofs.AnyOrder.{whole, valid_files, moved, to_entries}
 use Rattle.tree_walk.proofs.Cuts.{is_cut, valid_done, gathered_beside, left_apart, done_beside, all_within}
+use Rattle.circle_run.proofs.Sums.{sum_by-ones}
+use Rattle.circle_run.proofs.Maps.{sum_by-map}
 
 pub all_logs : {R : Type 0} (jobs : List (R × List Held)) → flat_map (λ job. log_of job.1) jobs ≡ log_of (flat_map (λ job. job.1) jobs)
 all_logs [] = refl
@@ -189,8 +191,8 @@ all_handled {R = R} jobs all list logs p =
       arith,
       all_lengths jobs,
       length-map held (λ (d : Held). d.0),
-      ones (entries_of held),
-      ones list,
+      sum_by-ones (entries_of held),
+      sum_by-ones list,
       sum_by-IsPermutation (λ (e : Entry). 1) (entries_of held) list (subst (λ es. IsPermutation es list) logs p),
     )
 

@@ -18,17 +18,20 @@ use Rattle.tree_walk.specs.Walk.{Answer, Answers, bare, answer_in, answers_in, e
 use Rattle.tree_walk.specs.Held.{Held, IsDone, IsPush, log_of}
 use Rattle.tree_walk.specs.Roots.{Apart}
 use Rattle.tree_walk.specs.Cut.{IsCut, IsJoined, RestartIsWalk, CutGoesOn, LeftIsApart, log_by}
-use Rattle.tree_walk.proofs.Lists.{all_append, all_parts}
+use Rattle.tree_walk.proofs.Lists.{all_parts}
 use Rattle.tree_walk.proofs.Names.{no_names}
 use Rattle.tree_walk.proofs.Recursive.{of_children, children_short}
 use Rattle.tree_walk.proofs.Covers.{covers, one, lined, from_apart}
-use Rattle.tree_walk.proofs.Often.{often, sum_by-flat_map}
-use Rattle.tree_walk.proofs.Once.{covered, falls, rises, sum_by-map}
+use Rattle.tree_walk.proofs.Often.{often}
+use Rattle.tree_walk.proofs.Once.{covered, falls, rises}
 use Rattle.tree_walk.proofs.Same.{same_paths}
 use Rattle.tree_walk.proofs.Lawful.{IsOwn, path_is, walks_ascend, walks_own}
 use Rattle.tree_walk.proofs.AnyOrder.{Tells, tells_itself, by_path, moved}
 use Rattle.tree_walk.proofs.Cuts.{kids, handled_by, pushed_by, rebalanced, Beside, left_apart, done_beside}
 use Rattle.tree_walk.proofs.Ordered.{in_order}
+use Rattle.circle_run.proofs.Sums.{sum_by-flat_map}
+use Rattle.circle_run.proofs.Maps.{sum_by-map}
+use Rattle.flat_list.proofs.Pieces.{all_join}
 
 -- ---- the done entries of a cut, as a job would hold them
 
@@ -235,7 +238,7 @@ whole_again files starts waiting ordered done later list r m o =
     r.walks ∙ sym (walks_agree a (answers_in later) (walk files a) (walk files (answers_in later)) (walk_agrees files a (answers_in later)) waiting
     (subst (Agree a (answers_in later)) r.walks agree)) in
     let own = recursion_from_All (λ (e : Entry). e ≡ entry_of (answer_in e) (get files e.path) e.path) done r.cut.own in
-    let owns = all_append (IsOwn files a) done later (own_done files a done own told.0)
+    let owns = all_join (IsOwn files a) done later (own_done files a done own told.0)
     (subst (AllByRecursion (IsOwn files a)) (sym again) (walks_own files a waiting)) in
     let short = done_short files starts waiting done r.valid r.short r.cut in
     let w = flat_map (walk files a) ordered in
@@ -288,7 +291,7 @@ restart_is_walk files starts left done later list t valid apart cut walks joined
 pub cut_goes_on : CutGoesOn
 cut_goes_on files starts left left' done done' list c c' p =
     let Own : Entry → Type 0 = λ e. e ≡ entry_of (answer_in e) (get files e.path) e.path in
-    let owns = all_append Own done done' (recursion_from_All Own done c.own) (recursion_from_All Own done' c'.own) in
+    let owns = all_join Own done done' (recursion_from_All Own done c.own) (recursion_from_All Own done' c'.own) in
     let both : Balanced (log_by files (done ++ done')) left' starts = record {
       weighs = λ weight. omega (
         arith,

@@ -1,9 +1,8 @@
 -- The roots of given paths are unique.
-use Rattle.std.proofs.Common.{◌≡◌, inl, inr, ⊎_elim, ℕ, true, List, [], ◌∷◌, None, refl, ap, ◌∙◌, sym, subst}
+use Rattle.std.proofs.Common.{◌≡◌, inl, inr, ⊎_elim, ℕ, true, List, [], ◌∷◌, None, refl, ◌∙◌, sym, subst}
 use Rattle.std.specs.List.{AllByRecursion, Contains}
 use Rattle.std.specs.List.Sorted.{IsStrictlySortedBy}
-use Rattle.std.specs.Ordering.{ordering_reverse}
-use Rattle.std.specs.declared.cmp.Ordering.TheVariants.{Less, Greater}
+use Rattle.std.specs.declared.cmp.Ordering.TheVariants.{Less}
 use Rattle.std.proofs.lemmas.List.Elements.{recursion_from_All}
 use Rattle.path_text.specs.Path.{refusal}
 use Rattle.path_text.specs.Order.{path_cmp}
@@ -11,15 +10,13 @@ use Rattle.path_text.specs.Total.{path_cmp_total}
 use Rattle.tree_walk.specs.Roots.{is_in, is_in_some, IsRoots, RootsAreUnique}
 use Rattle.tree_walk.proofs.Inside.{in_itself, in_trans, in_both_ways}
 use Rattle.tree_walk.proofs.Standing.{In, in_list, of_all, Above, above, only}
+use Rattle.path_text.proofs.Under.{irreflexive}
 
 -- ---- two lists in order that hold the same paths
 
 -- the paths behind x in path order
 abbrev Behind : List ℕ → List (List ℕ) → Type 0
 Behind x xs = AllByRecursion (λ y. path_cmp x y ≡ Less) xs
-
-not_itself : (x : List ℕ) → path_cmp x x ≡ Less → ⊥
-not_itself x e = let turned : Less ≡ Greater = sym e ∙ path_cmp_total.antisymm x x ∙ ap ordering_reverse e in cc
 
 first_is : (x y : List ℕ) (xs ys : List (List ℕ)) → Behind x xs → Behind y ys → In x (y ∷ ys) → In y (x ∷ xs) → x ≡ y
 first_is x y xs ys s t i j =
@@ -28,10 +25,10 @@ first_is x y xs ys s t i j =
     (λ l.
     let less : path_cmp x y ≡ Less = of_all (λ z. path_cmp x z ≡ Less) xs y s l in
     let more : path_cmp y x ≡ Less = of_all (λ z. path_cmp y z ≡ Less) ys x t k in
-    absurd (not_itself x (path_cmp_total.trans x y x less more))) j) i
+    absurd (irreflexive x (path_cmp_total.trans x y x less more))) j) i
 
 behind_first : (x y z : List ℕ) (ys : List (List ℕ)) → x ≡ y → path_cmp x z ≡ Less → In z (y ∷ ys) → In z ys
-behind_first x y z ys e l i = ⊎_elim (λ d. absurd (not_itself x (subst (λ w. path_cmp x w ≡ Less) (d ∙ sym e) l))) (λ j. j) i
+behind_first x y z ys e l i = ⊎_elim (λ d. absurd (irreflexive x (subst (λ w. path_cmp x w ≡ Less) (d ∙ sym e) l))) (λ j. j) i
 
 same_sorted : (xs ys : List (List ℕ)) → IsStrictlySortedBy path_cmp xs → IsStrictlySortedBy path_cmp ys →
     ((z : List ℕ) → In z xs → In z ys) → ((z : List ℕ) → In z ys → In z xs) → xs ≡ ys

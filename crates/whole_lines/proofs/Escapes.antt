@@ -1,6 +1,6 @@
 -- A path in UTF-8 is written in UTF-8, and without a line feed.
 use Rattle.std.proofs.Common.{◌≡◌, ℕ, zero, suc, ◌<◌, ◌≤◌, ◌/◌, ◌%◌, Bool, true, false, cond, ◌&&◌, eqb, nat_lt, List, [], ◌∷◌, ◌++◌, length, get_or}
-use Rattle.std.proofs.Common.{IsUtf8, inl, inr, refl, sym, ap, ap₂, subst, arith, append-nil, ltb-true}
+use Rattle.std.proofs.Common.{IsUtf8, inl, inr, refl, sym, ap₂, subst, arith, append-nil, ltb-true}
 use Rattle.std.proofs.lemmas.Bool.{and_parts, cases_lt, cases_eq}
 use Rattle.std.proofs.lemmas.Bool.Decides.{nat_tests}
 use Rattle.std.proofs.lemmas.Str.{IsUtf8-append, IsUtf8-nil, IsUtf8-encode, encode_ascii, inside_one}
@@ -8,6 +8,7 @@ use Rattle.std.proofs.lemmas.Grind.{flat_map-append}
 use lib.Utf8.{scalar, scalars, encode, encodes, low_scalar}
 use Rattle.path_text.specs.Escape.{escape, escaped, is_escaped, hex_digit}
 use Rattle.whole_lines.proofs.Words.{IsFree}
+use Rattle.path_text.proofs.Readable.{as_itself}
 
 -- ---- UTF-8
 
@@ -39,14 +40,11 @@ all_ascii = refl
 high_is_plain : (x : ℕ) → 128 ≤ x → is_escaped x ≡ false
 high_is_plain x le = grind (arith, nat_tests)
 
-plain : (x : ℕ) → is_escaped x ≡ false → escaped x ≡ x ∷ []
-plain x e = ap (λ t. cond t (92 ∷ 120 ∷ hex_digit (x / 16) ∷ hex_digit (x % 16) ∷ []) (x ∷ [])) e
-
 escape_high : (xs : List ℕ) → ((k : ℕ) → k < length xs → 128 ≤ get_or xs k 0) → escape xs ≡ xs
 escape_high [] h = refl
 escape_high (x ∷ xs) h =
     let high : 128 ≤ x = h 0 (omega arith) in
-    ap₂ (λ (a b : List ℕ). a ++ b) (plain x (high_is_plain x high)) (escape_high xs (λ k below. h (suc k) (omega arith)))
+    ap₂ (λ (a b : List ℕ). a ++ b) (as_itself x (high_is_plain x high)) (escape_high xs (λ k below. h (suc k) (omega arith)))
 
 one_char : (c : ℕ) → scalar c ≡ true → IsUtf8 (escape (encode c))
 one_char c ok = elim (cases_lt c 128) [

@@ -5,8 +5,9 @@ use Rattle.std.specs.List.{AllByRecursion, flat_map}
 use Rattle.std.proofs.lemmas.Bool.{false≢true}
 use Rattle.whole_lines.specs.Lines.{line, onto_line, lines_of}
 use Rattle.whole_lines.specs.Words.{cut, onto_word}
-use Rattle.whole_lines.proofs.Words.{IsFree, eqb_is}
+use Rattle.whole_lines.proofs.Words.{IsFree}
 use Rattle.whole_lines.proofs.WholeLines.{cons_parts}
+use Rattle.std.proofs.lemmas.Map.Views.{exact_unsigned_eq}
 
 pub all_more : {A : Type 0} (P : A → Type 0) (xs : List A) (y : A) → AllByRecursion P xs → P y → AllByRecursion P (xs ++ y ∷ [])
 all_more P [] y h p = (p, tt)
@@ -73,7 +74,7 @@ pub joined_lines : (bytes : List ℕ) → flat_map (λ l. l) (lines_of bytes) �
 joined_lines [] = refl
 joined_lines (b ∷ bytes) = elim (eqb b 10) as
     (λ t. eqb b 10 ≡ t → flat_map (λ l. l) (cond t ((10 ∷ []) ∷ lines_of bytes) (onto_line b (lines_of bytes))) ≡ b ∷ bytes) [
-      | true ↦ λ is. ap (λ l. 10 ∷ l) (joined_lines bytes) ∙ ap (λ b. b ∷ bytes) (sym (eqb_is b 10 is))
+      | true ↦ λ is. ap (λ l. 10 ∷ l) (joined_lines bytes) ∙ ap (λ b. b ∷ bytes) (sym (exact_unsigned_eq b 10 is))
       | false ↦ λ is. onto b (lines_of bytes) ∙ ap (λ l. b ∷ l) (joined_lines bytes)
     ] refl
   where

@@ -2,7 +2,7 @@
 use Rattle.std.proofs.Common.{◌≡◌, ℕ, suc, ◌+◌, ◌<◌, Bool, true, false, not, cond, ltb, eqb, List, [], ◌∷◌, ◌++◌, length, get_or, take, drop, Option}
 use Rattle.std.proofs.Common.{Some, None, refl, ap, sym, ◌∙◌, subst, arith, add-one}
 use Rattle.std.specs.List.{position, position_or_len, AllByRecursion}
-use Rattle.std.proofs.lemmas.Bool.{ltb-false, le-ltb}
+use Rattle.std.proofs.lemmas.Bool.{ltb-false, le-ltb, false_from_ne_true}
 use Rattle.std.proofs.lemmas.Bool.Decides.{nat_tests}
 use Rattle.std.proofs.lemmas.List.{take-append-drop, get_or-take, length-take}
 use Rattle.std.proofs.lemmas.List.Quantifiers.{position-Some}
@@ -11,6 +11,7 @@ use Rattle.std.proofs.lemmas.Grind.{get_or_default_zero}
 use Rattle.std.proofs.Math.Seq.{drop-cons}
 use Rattle.memchr.specs.Find.{IsFirstByte, is_byte}
 use Rattle.whole_lines.specs.Words.{◌>>=◌, cut, onto_word, word_at}
+use Rattle.std.proofs.lemmas.Map.Views.{exact_unsigned_eq}
 
 -- the byte is not among them
 abbrev pub IsFree : ℕ → List ℕ → Type 0
@@ -18,9 +19,6 @@ IsFree c word = AllByRecursion (λ b. eqb b c ≡ false) word
 
 pub eqb_same : (n : ℕ) → eqb n n ≡ true
 eqb_same n = grind (arith, nat_tests)
-
-pub eqb_is : (b c : ℕ) → eqb b c ≡ true → b ≡ c
-eqb_is b c e = grind (arith, nat_tests)
 
 pub cut_again : (c : ℕ) (word rest : List ℕ) → IsFree c word → cut c (word ++ c ∷ rest) ≡ Some (word, rest)
 unfolding cut
@@ -48,7 +46,8 @@ cut_here : (c b : ℕ) (text word rest : List ℕ) → eqb b c ≡ true → ◌�
     IsCut c (b ∷ text) word rest
 cut_here c b text word rest is e =
     let same = pair_parts ([], text) (word, rest) e in
-    record { parts = ap (λ b. b ∷ text) (eqb_is b c is) ∙ ap (λ t. c ∷ t) same.1 ∙ ap (λ w. w ++ c ∷ rest) same.0; free = subst (IsFree c) same.0 tt }
+    record { parts = ap (λ b. b ∷ text) (exact_unsigned_eq b c is) ∙ ap (λ t. c ∷ t) same.1 ∙ ap (λ w. w ++ c ∷ rest) same.0; free = subst
+        (IsFree c) same.0 tt }
 
 cut_later : (c b : ℕ) (text word rest front : List ℕ) → eqb b c ≡ false → IsCut c text front rest → word ≡ b ∷ front → IsCut c (b ∷ text) word rest
 cut_later c b text word rest front is before e =
@@ -83,7 +82,7 @@ pub placed_some : (c : ℕ) (text : List ℕ) (k : ℕ) → position (λ b. eqb 
     (k < length text) × (cut c text ≡ Some (take k text, drop (k + 1) text))
 placed_some c text k e =
     let at = position-Some (λ b. eqb b c) text k 0 e in
-    (at.0, cut_at c text k at.0 (eqb_is (get_or text k 0) c at.1) at.2)
+    (at.0, cut_at c text k at.0 (exact_unsigned_eq (get_or text k 0) c at.1) at.2)
 
 no_place : (c : ℕ) (text : List ℕ) → ltb (position_or_len (λ b. eqb b c) text) (length text) ≡ false → cut c text ≡ None
 unfolding cut
@@ -111,21 +110,18 @@ placed_none c text e = no_place c text (by_test (ltb (position_or_len (λ b. eqb
 
 -- ---- the first place of the byte, as it is sought many bytes at a time
 
-not_true : (b : Bool) → (b ≡ true → ⊥) → b ≡ false
-not_true true h = absurd (h refl)
-not_true false h = refl
-
 pub first_some : (c : ℕ) (text : List ℕ) (k : ℕ) → IsFirstByte (is_byte c) text (Some k) →
     (k < length text) × (cut c text ≡ Some (take k text, drop (k + 1) text))
 first_some c text k first =
     let lt : k < length text = first.0.high in
-    (lt, cut_at c text k lt (eqb_is (get_or text k 0) c first.1) (λ j below. not_true (eqb (get_or text j 0) c) (first.0.before j (omega arith) below)))
+    (lt, cut_at c text k lt (exact_unsigned_eq (get_or text k 0) c first.1)
+        (λ j below. false_from_ne_true (eqb (get_or text j 0) c) (first.0.before j (omega arith) below)))
 
 pub first_none : (c : ℕ) (text : List ℕ) → IsFirstByte (is_byte c) text None → cut c text ≡ None
 unfolding cut
 first_none c [] none = refl
 first_none c (b ∷ text) none =
-    ap (λ t. cond t (Some ([], text)) (onto_word b (cut c text))) (not_true (eqb b c) (none 0 (omega arith) (omega arith)))
+    ap (λ t. cond t (Some ([], text)) (onto_word b (cut c text))) (false_from_ne_true (eqb b c) (none 0 (omega arith) (omega arith)))
     ∙ ap (onto_word b) (first_none c text (λ j low below. none (suc j) (omega arith) (omega (arith, below))))
 
 pub ruleset firsts = (first_some, first_none)

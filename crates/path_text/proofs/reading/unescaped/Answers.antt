@@ -2,7 +2,7 @@ use Rattle.std.proofs.Common.{◌∙◌, sym, ap, arith, Some, None, ◌++◌, �
 use Rattle.std.specs.String.{string_bytes}
 use Rattle.std.proofs.lemmas.Str.Pattern.{split_parts}
 use Rattle.path_text.specs.Escape.{good_len}
-use Rattle.path_text.proofs.Readable.{step, cut, read_on, last_piece}
+use Rattle.path_text.proofs.Readable.{step, cut, read_on, none_past}
 use Rattle.path_text.proofs.reading.unescaped.Goals as goal
 
 pub told-requires : goal.told-requires
@@ -32,4 +32,4 @@ loop-plain-preserved c =
 
 pub returns : goal.returns
 returns c = c.in_ok-push_str-2.ensures.bytes ∙ ap (λ l. string_bytes c.loop-plain.bytes ++ l)
-    (sym (last_piece c.loop-plain.rest.now (split_parts 92 c.loop-plain.rest.now None c.in_default.ensures.cases (omega arith)))) ∙ c.loop-plain.invariant.read
+    (sym (none_past c.loop-plain.rest.now (split_parts 92 c.loop-plain.rest.now None c.in_default.ensures.cases (omega arith)))) ∙ c.loop-plain.invariant.read

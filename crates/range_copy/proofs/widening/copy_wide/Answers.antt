@@ -9,7 +9,7 @@ use Rattle.range_copy.proofs.Widened.{Given}
 use Rattle.range_copy.proofs.widening.copy_wide.Given as given
 use Rattle.range_copy.proofs.widening.copy_wide.Goals as goal
 use Rattle.range_copy.proofs.widening.copy_wide.Goals.{After-report_of, In_ok-parts}
-use Rattle.tree_copy.proofs.Readers.{if_ok}
+use Rattle.level_work.proofs.Hands.{if_ok}
 
 -- what is known of the list and its pairs once the list is in parts
 known : (g : given.Over) (c : In_ok-parts g) → Given c.args.list.now c.args.pairs.now

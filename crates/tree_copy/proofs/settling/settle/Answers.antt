@@ -7,7 +7,8 @@ use Rattle.std.proofs.lemmas.Option.{slice_get-get_or}
 use Rattle.std.specs.List.{zip}
 use Rattle.tree_copy.specs.Copying.{treated}
 use Rattle.tree_copy.specs.PrivateSettling.{fitting}
-use Rattle.tree_copy.proofs.Tallies.{Tallied, at_end, both_parts, fate_left, firsts, row_more, seconds, IsFate, IsNoted, few_more, has_mark, left_skipped, moved_on, path_step, some_left, next_of, passed, skipped}
+use Rattle.tree_copy.proofs.Tallies.{Tallied, at_end, both_parts, fate_left, firsts, row_more, seconds, IsFate, IsNoted, few_more, has_mark, left_skipped}
+use Rattle.tree_copy.proofs.Tallies.{moved_on, path_step, some_left, next_of, passed, skipped}
 use Rattle.tree_copy.proofs.settling.settle.Goals as goal
 use Rattle.tree_copy.proofs.settling.settle.Goals.{After-len}
 

@@ -2,8 +2,9 @@ use Rattle.std.proofs.Common.{rules, arith, ◌≡◌, [], ◌∷◌, ◌++◌, 
 use Rattle.std.specs.Vec.Iter.{into_iter_items}
 use Rattle.tree_dup.specs.declared.runs.File.{File}
 use Rattle.tree_dup.specs.Private.Dealing.{AreDealt}
-use Rattle.tree_dup.proofs.Dealt.{dealt_first, nil_of}
+use Rattle.tree_dup.proofs.Dealt.{dealt_first}
 use Rattle.tree_dup.proofs.dealing.deal.Goals as goal
+use Rattle.std.proofs.lemmas.List.{nil_from_length}
 
 pub loop-file-init : goal.loop-file-init
 loop-file-init c = record {
@@ -27,7 +28,7 @@ pub returns : goal.returns
 returns c =
     let i = c.loop-file.invariant in
     let none : into_iter_items c.loop-file.file-iterator ≡ [] =
-    nil_of (into_iter_items c.loop-file.file-iterator) (omega (arith, i.len, c.in-None.ensures.steps.0)) in
+    nil_from_length (into_iter_items c.loop-file.file-iterator) (omega (arith, i.len, c.in-None.ensures.steps.0)) in
     let all : c.loop-file.yielded ≡ c.args.run.items =
     sym (append-nil c.loop-file.yielded) ∙ ap (λ (rest : List File). c.loop-file.yielded ++ rest) (sym none) ∙ i.all in
     subst (λ (run : List File). AreDealt run c.loop-file.paths.items c.loop-file.others.items c.args.found.now c.loop-file.found) all i.dealt

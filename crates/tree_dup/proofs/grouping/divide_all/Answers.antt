@@ -10,10 +10,11 @@ use Rattle.tree_dup.specs.Private.Hashing.{IsWhole}
 use Rattle.tree_dup.specs.Private.Running.{IsRun, IsLastRun, StandFrom, StandFor, comparison_faults, content_cmp, still}
 use Rattle.tree_dup.specs.Private.Sifting.{AreSifted}
 use Rattle.tree_dup.proofs.Counted.{read_more, read_none}
-use Rattle.tree_dup.proofs.Compared.{front_cut, stand_for, if_some}
+use Rattle.tree_dup.proofs.Compared.{front_cut, stand_for}
 use Rattle.tree_dup.proofs.Ran.{sorted_take, still_take, still_drop}
 use Rattle.tree_dup.proofs.Sifted.{sifted_cut, sifted_left, sifted_as}
 use Rattle.tree_dup.proofs.grouping.divide_all.Goals as goal
+use Rattle.tree_cmp.proofs.Placed.{if_some}
 
 pub loop-alloc-init : goal.loop-alloc-init
 loop-alloc-init g c = record {

@@ -5,10 +5,10 @@ use Rattle.std.specs.List.{AllByRecursion}
 use Rattle.tree_walk.specs.Answered.{IsAnswered}
 use Rattle.tree_walk.specs.Held.{log_of, held_of}
 use Rattle.tree_walk.proofs.Held.{IsStep, step_holds, step_log}
-use Rattle.tree_walk.proofs.Lists.{all_append}
 use Rattle.tree_walk.proofs.keeping.handle_path.Given as given
 use Rattle.tree_walk.proofs.keeping.handle_path.Goals as goal
 use Rattle.tree_walk.proofs.keeping.handle_path.Goals.{In-Ok-keep}
+use Rattle.flat_list.proofs.Pieces.{all_join}
 
 -- A path that was looked at and kept is a step.
 stepped : (g : given.Over) (c : In-Ok-keep g)
@@ -39,4 +39,4 @@ pub returns-clause-answered : goal.returns-clause-answered
 returns-clause-answered g c =
     let P = IsAnswered g.R.Tree.gives in
     subst (AllByRecursion P) (sym c.in-Ok-keep.ensures.added)
-    (all_append P c.args.entries.now (c.in_ok-entry.entry ∷ []) c.requires.answered (c.in_ok-entry.ensures.answered, tt))
+    (all_join P c.args.entries.now (c.in_ok-entry.entry ∷ []) c.requires.answered (c.in_ok-entry.ensures.answered, tt))

@@ -1,10 +1,10 @@
 use Rattle.std.proofs.Common.{◌∙◌, ap, arith}
 use Rattle.outside.specs.Count.{capped}
 use Rattle.tree_walk.specs.Held.{Holds}
-use Rattle.tree_walk.proofs.Lists.{all_append}
 use Rattle.tree_walk.proofs.Caused.{more_answered}
 use Rattle.tree_walk.proofs.Ranks.{more_logs, more_faults, never_falls}
 use Rattle.tree_walk.proofs.walking.opened.Goals as goal
+use Rattle.flat_list.proofs.Pieces.{all_join}
 
 pub loop-job-preserved : goal.loop-job-preserved
 loop-job-preserved g c =
@@ -15,7 +15,7 @@ loop-job-preserved g c =
     record {
       logs = more_logs (λ log. log) c.loop-job.logs.items c.push.new.self.items _ c.loop-job.yielded c.in-Some.job
           c.in_ok-push.ensures.items opened.entries before.logs;
-      holds = all_append (λ job. Holds (g.G.Reader.Tree.tree job.0) (reader job.0) job.1) c.loop-job.yielded _ before.holds (opened.holds, tt);
+      holds = all_join (λ job. Holds (g.G.Reader.Tree.tree job.0) (reader job.0) job.1) c.loop-job.yielded _ before.holds (opened.holds, tt);
       answered = more_answered g.G.Reader.Tree.gives (λ log. log) c.loop-job.logs.items c.push.new.self.items _ c.in_ok-push.ensures.items
           before.answered opened.answered;
       counted = more_faults c.loop-job.yielded c.in-Some.job (count c.args.ground.now) (count c.loop-job.ground) (count c.take_reader.new.self)
