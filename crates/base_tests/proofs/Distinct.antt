@@ -1,11 +1,6 @@
 -- Paths of which no two are the same.
-use Rattle.std.proofs.Common.{◌≡◌, ℕ, zero, suc, Bool, true, false, not, ◌&&◌, ◌||◌, refl, ap, ◌∙◌, sym, List, [], ◌∷◌, Some, slice_get}
-use Rattle.std.proofs.lemmas.Bool.{false≢true}
-use Rattle.std.proofs.lemmas.Option.{get_or_from_slice_get}
-use Rattle.std.specs.Prelude.{nat_eq}
-use Rattle.std.specs.List.{list_any}
-use Rattle.std.specs.Cmp.Lexicographic.{pointwise, nat_list_eq_equiv}
-use Rattle.base_tests.specs.Differ.{all_differ}
+use Rattle.base_tests.proofs.Prelude.{◌≡◌, ℕ, zero, suc, Bool, true, false, not, ◌&&◌, ◌||◌, refl, ap, ◌∙◌, sym, List, [], ◌∷◌, Some, slice_get, false≢true}
+use Rattle.base_tests.proofs.Prelude.{get_or_from_slice_get, nat_eq, list_any, pointwise, nat_list_eq_equiv, all_differ}
 
 abbrev pub AreDistinct : List (List ℕ) → Type 0
 AreDistinct paths = (i j : ℕ) (x : List ℕ) → slice_get paths i ≡ Some x → slice_get paths j ≡ Some x → i ≡ j

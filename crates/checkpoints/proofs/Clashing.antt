@@ -1,23 +1,10 @@
 -- Which done entries clash with a path, told by those that were passed before it and by the first one that was not.
-use Rattle.std.proofs.Common.{◌≡◌, ℕ, ◌<◌, Bool, true, false, not, ◌&&◌, ◌||◌, List, [], ◌∷◌, ◌++◌, length, refl, ap, ◌∙◌, sym, subst, cond}
-use Rattle.std.proofs.Common.{Option, Some}
-use Rattle.std.specs.List.{AllByRecursion, list_any}
+use Rattle.checkpoints.proofs.Prelude.{◌≡◌, ℕ, ◌<◌, Bool, true, false, not, ◌&&◌, ◌||◌, List, [], ◌∷◌, ◌++◌, length, refl, ap, ◌∙◌, sym, subst, cond, Option}
+use Rattle.checkpoints.proofs.Prelude.{Some, AllByRecursion, list_any, is_lt, ordering_reverse, Less, false≢true, path_cmp, path_cmp_total, Entry, paths, is_in}
+use Rattle.checkpoints.proofs.Prelude.{in_itself, is_open, clashes, Behind, AllBehind, covered, top_with, IsTop, closed_paths, closed_with, IsBelow, ArePassed}
+use Rattle.checkpoints.proofs.Prelude.{StartsBehind, starts_in, moved, first_of, all_weaker, lt_is}
 use Rattle.std.specs.List.Sorted.{IsStrictlySortedBy}
-use Rattle.std.specs.Ordering.{is_lt, ordering_reverse}
-use Rattle.std.specs.declared.cmp.Ordering.TheVariants.{Less}
-use Rattle.std.proofs.lemmas.Bool.{false≢true}
-use Rattle.path_text.specs.Order.{path_cmp}
-use Rattle.path_text.specs.Total.{path_cmp_total}
-use Rattle.entry_pages.specs.declared.entries.Entry.{Entry}
-use Rattle.flat_list.specs.Spelling.{paths}
-use Rattle.tree_walk.specs.Roots.{is_in}
-use Rattle.tree_walk.proofs.Inside.{in_itself}
-use Rattle.checkpoints.specs.Placing.{is_open, clashes}
-use Rattle.checkpoints.specs.Passing.{Behind, AllBehind, covered, top_with, IsTop, closed_paths, closed_with}
-use Rattle.checkpoints.specs.Passing.{IsBelow, ArePassed, StartsBehind, starts_in, moved, first_of}
 use Rattle.checkpoints.proofs.Tops.{between, behind_trans, behind_in, same_place, less_out, top_push}
-use Rattle.outside.proofs.Names.{all_weaker}
-use Rattle.flat_list.proofs.Decoded.{lt_is}
 
 -- ---- entries in path order
 

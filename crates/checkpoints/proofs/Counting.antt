@@ -1,22 +1,8 @@
 -- How many left strings in path order a left string is equal to or under.
-use Rattle.std.proofs.Common.{◌≡◌, ℕ, ◌+◌, ◌<◌, Bool, true, false, ◌||◌, List, [], ◌∷◌, ◌++◌, length, get_or, suc, refl, ap, ◌∙◌, sym, subst, arith}
-use Rattle.std.proofs.Common.{cond, eqb, Option}
-use Rattle.std.specs.Prelude.{nat_lt}
-use Rattle.std.specs.List.{AllByRecursion, list_any, count_by}
-use Rattle.std.specs.List.Sorted.{IsSortedByKey}
-use Rattle.std.specs.Ordering.{is_lt}
-use Rattle.std.specs.Cmp.Lexicographic.{pointwise, bytes_decides}
-use Rattle.std.proofs.lemmas.Bool.{false≢true}
-use Rattle.std.proofs.lemmas.Bool.Decides.{nat_tests}
-use Rattle.std.proofs.lemmas.List.Elements.{recursion_from_All}
-use Rattle.std.proofs.lemmas.List.Sorted.{sorted_far, ranks_by}
-use Rattle.std.proofs.lemmas.List.Sums.{sum_by-cons, sum_by-append}
-use Rattle.path_text.specs.Order.{path_cmp}
-use Rattle.path_text.specs.Total.{path_cmp_total}
-use Rattle.tree_walk.specs.Roots.{is_in}
-use Rattle.tree_walk.proofs.Inside.{in_itself}
-use Rattle.tree_walk.proofs.Lists.{all_map}
-use Rattle.checkpoints.specs.Passing.{Behind, AllBehind, covered, IsTop, starts_at, Numbered, paths_in}
+use Rattle.checkpoints.proofs.Prelude.{◌≡◌, ℕ, ◌+◌, ◌<◌, Bool, true, false, ◌||◌, List, [], ◌∷◌, ◌++◌, length, get_or, suc, refl, ap, ◌∙◌, sym, subst, arith}
+use Rattle.checkpoints.proofs.Prelude.{cond, eqb, Option, nat_lt, AllByRecursion, list_any, count_by, IsSortedByKey, is_lt, pointwise, bytes_decides}
+use Rattle.checkpoints.proofs.Prelude.{false≢true, nat_tests, recursion_from_All, sorted_far, ranks_by, sum_by-cons, sum_by-append, path_cmp, path_cmp_total}
+use Rattle.checkpoints.proofs.Prelude.{is_in, in_itself, all_map, Behind, AllBehind, covered, IsTop, starts_at, Numbered, paths_in}
 use Rattle.checkpoints.proofs.Tops.{behind_in, same_place}
 use Rattle.checkpoints.proofs.Clashing.{or_first}
 

@@ -1,40 +1,19 @@
 -- A folder holds one checkpoint, and where nothing stands against it only want of memory stops reading and writing.
-use Rattle.std.proofs.Common.{◌≡◌, ◌⊎◌, inl, inr, ℕ, ◌+◌, ◌<◌, ◌≤◌, zero, suc, Bool, true, false, not, ◌&&◌, ◌||◌, List, [], ◌∷◌, ◌++◌, map, length}
-use Rattle.std.proofs.Common.{Option, Some, None, refl, ap, sym, ◌∙◌, subst, arith, add-zero, zero-add}
-use Rattle.std.specs.Prelude.{IfSome, is_some, is_none, nat_eq}
-use Rattle.std.specs.List.{AllByRecursion, flat_map, range_with_len}
-use Rattle.std.specs.FinMap.{get}
-use Rattle.std.specs.Cmp.Lexicographic.{pointwise}
-use Rattle.std.proofs.lemmas.Bool.{false≢true}
-use Rattle.std.proofs.lemmas.List.Elements.{recursion_from_All, All-from_recursion}
-use Rattle.path_text.specs.Path.{refusal, parent_of}
-use Rattle.outside.specs.Tree.{Files, Node, is_file, is_dir, is_root}
-use Rattle.outside.specs.Count.{StoodStill}
-use Rattle.outside.specs.Whole.{HoldsFile, can_save}
-use Rattle.entry_pages.specs.declared.entries.Entry.{Entry}
-use Rattle.flat_list.specs.Spelling.{Spells, SpellsOne, RefusesExactly, IsRefused, IsTooLong}
-use Rattle.circle_lists.specs.declared.errors.ListsError.{ListsError}
+use Rattle.checkpoints.proofs.Prelude.{◌≡◌, ◌⊎◌, inl, inr, ℕ, ◌+◌, ◌<◌, ◌≤◌, zero, suc, Bool, true, false, not, ◌&&◌, ◌||◌, List, [], ◌∷◌, ◌++◌, map, length}
+use Rattle.checkpoints.proofs.Prelude.{Option, Some, None, refl, ap, sym, ◌∙◌, subst, arith, add-zero, zero-add, IfSome, is_some, is_none, nat_eq}
+use Rattle.checkpoints.proofs.Prelude.{AllByRecursion, flat_map, range_with_len, get, pointwise, false≢true, recursion_from_All, All-from_recursion, refusal}
+use Rattle.checkpoints.proofs.Prelude.{parent_of, Files, Node, is_file, is_dir, is_root, StoodStill, HoldsFile, can_save, Entry, Spells, SpellsOne}
+use Rattle.checkpoints.proofs.Prelude.{RefusesExactly, IsRefused, IsTooLong, ListsError, file_path, AllFit, HoldsList, HoldLists, Reached, SameButFiles}
+use Rattle.checkpoints.proofs.Prelude.{StopsReadingAt, StopsWritingAt, ReadsBack, folder_differs, parent_of_file, input, Stop, Side, Output}
+use Rattle.checkpoints.proofs.Prelude.{FinePlacesStopForMemory, output_of, StopsListing, list_path, checkpoint_paths, HoldsEntries, IsKept, is_misplaced}
+use Rattle.checkpoints.proofs.Prelude.{ArePlaced, IsFirstMisplaced, stop_of_lists, HasNoRanks, HasMisplaced, IsGone, WroteNoRanks, WroteNoList, WroteTorn}
+use Rattle.checkpoints.proofs.Prelude.{CheckpointsAreOne, IsFineKept, FineReadsStopForMemory, IsFree, FineWritesStopForMemory, no_fault}
 use Rattle.circle_lists.specs.declared.errors.ListsError.TheVariants as error
 use Rattle.circle_lists.specs.Spelling as circle
-use Rattle.circle_lists.specs.Checkpoint.{file_path, AllFit, HoldsList, HoldLists, Reached, SameButFiles, StopsReadingAt, StopsWritingAt}
-use Rattle.circle_lists.specs.Checkpoint.{ReadsBack}
 use Rattle.circle_lists.specs.Checkpoint as lists
-use Rattle.circle_lists.proofs.Places.{folder_differs, parent_of_file}
-use Rattle.tool_words.specs.Asked.{input}
 use Rattle.run_report.specs.declared.stops.Trouble.TheVariants as trouble
-use Rattle.run_report.specs.declared.stops.Stop.{Stop}
 use Rattle.run_report.specs.declared.stops.Stop.TheVariants as stop
-use Rattle.run_report.specs.Sides.{Side}
-use Rattle.run_entries.specs.declared.saving.Output.{Output}
-use Rattle.run_entries.specs.Fine.{FinePlacesStopForMemory}
-use Rattle.run_entries.specs.Saving.{output_of}
-use Rattle.run_entries.specs.Stopping.{StopsListing}
-use Rattle.checkpoints.specs.Kept.{list_path, checkpoint_paths, HoldsEntries, IsKept}
-use Rattle.checkpoints.specs.Placing.{is_misplaced, ArePlaced, IsFirstMisplaced}
-use Rattle.checkpoints.specs.Stopping.{stop_of_lists, HasNoRanks, HasMisplaced, IsGone, WroteNoRanks, WroteNoList, WroteTorn}
-use Rattle.checkpoints.specs.Laws.{CheckpointsAreOne, IsFineKept, FineReadsStopForMemory, IsFree, FineWritesStopForMemory}
 use Rattle.checkpoints.proofs.Paths.{dir_differs, file_differs, list_differs, parent_of_list}
-use Rattle.run_entries.proofs.Fine.{no_fault}
 
 -- ---- counts and trees
 

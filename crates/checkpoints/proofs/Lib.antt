@@ -1,3 +1,4 @@
+mod Prelude
 pub mod Tops
 pub mod Stepping
 pub mod Clashing

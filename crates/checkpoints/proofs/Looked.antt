@@ -1,24 +1,12 @@
 -- The pass over the left strings in path order.
-use Rattle.std.proofs.Common.{◌≡◌, ℕ, ◌+◌, ◌<◌, ◌≤◌, ◌||◌, List, [], ◌∷◌, ◌++◌, length, take, drop, get_or, suc, ap, ◌∙◌, sym, subst, arith}
-use Rattle.std.proofs.Common.{Option}
-use Rattle.std.specs.Prelude.{nat_lt}
-use Rattle.std.specs.List.{list_any, count_by}
-use Rattle.std.specs.List.Sorted.{IsSortedByKey}
-use Rattle.std.specs.Ordering.{is_lt}
-use Rattle.std.proofs.Math.Seq.{split_at}
-use Rattle.std.proofs.lemmas.List.{drop-map, map-append, get_or_default}
-use Rattle.std.proofs.lemmas.List.Sorted.{sorted_far, ranks_by}
-use Rattle.path_text.specs.Order.{path_cmp}
-use Rattle.path_text.specs.Total.{path_cmp_total}
-use Rattle.entry_pages.specs.declared.entries.Entry.{Entry}
-use Rattle.tree_walk.specs.Roots.{is_in}
-use Rattle.checkpoints.specs.Placing.{clashes, is_misplaced}
-use Rattle.checkpoints.specs.Passing.{Behind, covered, top_with, IsTop, IsBelow, ArePassed, starts_at, Numbered, paths_in, lowest_with, IsLowest}
+use Rattle.checkpoints.proofs.Prelude.{◌≡◌, ℕ, ◌+◌, ◌<◌, ◌≤◌, ◌||◌, List, [], ◌∷◌, ◌++◌, length, take, drop, get_or, suc, ap, ◌∙◌, sym, subst, arith, Option}
+use Rattle.checkpoints.proofs.Prelude.{nat_lt, list_any, count_by, IsSortedByKey, is_lt, split_at, drop-map, map-append, get_or_default, sorted_far, ranks_by}
+use Rattle.checkpoints.proofs.Prelude.{path_cmp, path_cmp_total, Entry, is_in, clashes, is_misplaced, Behind, covered, top_with, IsTop, IsBelow, ArePassed}
+use Rattle.checkpoints.proofs.Prelude.{starts_at, Numbered, paths_in, lowest_with, IsLowest, all_weaker}
 use Rattle.checkpoints.proofs.Tops.{top_push, less_after}
 use Rattle.checkpoints.proofs.Counting.{Rises, rises, rises_before, again_is}
 use Rattle.checkpoints.proofs.Lowest.{lowest_push}
 use Rattle.checkpoints.proofs.Numbers.{IsAt, take_push}
-use Rattle.outside.proofs.Names.{all_weaker}
 
 -- how far the pass has come: so many left strings were looked at, and this is known of them and of the entries
 pub record State : Type 0 where

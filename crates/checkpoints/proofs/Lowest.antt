@@ -1,14 +1,8 @@
 -- The lowest number of those that pass a test.
-use Rattle.std.proofs.Common.{◌≡◌, ℕ, ◌+◌, ◌<◌, Bool, true, false, List, [], ◌∷◌, ◌++◌, length, get_or, refl, ap, ◌∙◌, sym, subst, arith, cond}
-use Rattle.std.proofs.Common.{Option, Some, None, min}
-use Rattle.std.specs.Prelude.{nat_lt}
-use Rattle.std.specs.List.{All, Contains, enumerate_from}
-use Rattle.std.proofs.lemmas.Bool.{false≢true, false_from_ne_true}
-use Rattle.std.proofs.lemmas.Bool.Decides.{nat_tests}
-use Rattle.std.proofs.lemmas.List.{get_or_append_left, get_or_at, length-append}
-use Rattle.std.proofs.lemmas.List.Elements.{All-push, All-weaker, Contains-append_left, Contains-push}
-use Rattle.std.proofs.lemmas.List.FromFn.{length-enumerate_from, get_or-enumerate_from}
-use Rattle.checkpoints.specs.Passing.{Numbered, lower_of, lowest_with, IsUpTo, IsLowest}
+use Rattle.checkpoints.proofs.Prelude.{◌≡◌, ℕ, ◌+◌, ◌<◌, Bool, true, false, List, [], ◌∷◌, ◌++◌, length, get_or, refl, ap, ◌∙◌, sym, subst, arith, cond, Option}
+use Rattle.checkpoints.proofs.Prelude.{Some, None, min, nat_lt, All, Contains, enumerate_from, false≢true, false_from_ne_true, nat_tests, get_or_append_left}
+use Rattle.checkpoints.proofs.Prelude.{get_or_at, length-append, All-push, All-weaker, Contains-append_left, Contains-push, length-enumerate_from}
+use Rattle.checkpoints.proofs.Prelude.{get_or-enumerate_from, Numbered, lower_of, lowest_with, IsUpTo, IsLowest}
 
 still_up : (lowest : Option ℕ) (n m : ℕ) → IsUpTo lowest m → IsUpTo (lower_of lowest n) m
 still_up None n m h = absurd h

@@ -1,16 +1,8 @@
 -- Left strings numbered in the order of their lists, and where one with a number stands.
-use Rattle.std.proofs.Common.{◌≡◌, ℕ, ◌+◌, ◌<◌, List, [], ◌∷◌, ◌++◌, map, length, take, drop, get_or, suc, ap, ◌∙◌, sym, arith}
-use Rattle.std.proofs.Common.{append_assoc, eqb}
-use Rattle.std.specs.List.{enumerate_from, flat_map}
-use Rattle.std.specs.List.Sorted.{IsSortedBy, IsSortedByKey}
-use Rattle.std.specs.Ordering.{is_lt}
-use Rattle.std.specs.Cmp.Lexicographic.{pointwise}
-use Rattle.std.proofs.Math.Seq.{split_at}
-use Rattle.std.proofs.lemmas.List.{take_more, drop_more, drop-map, length-map, get_or-map, length-append, length-take-le, append-nil}
-use Rattle.std.proofs.lemmas.List.Concat.{flat_map-append}
-use Rattle.std.proofs.lemmas.List.FromFn.{length-enumerate_from}
-use Rattle.path_text.specs.Order.{path_cmp}
-use Rattle.checkpoints.specs.Passing.{starts_at, Numbered, paths_in, IsPlace}
+use Rattle.checkpoints.proofs.Prelude.{◌≡◌, ℕ, ◌+◌, ◌<◌, List, [], ◌∷◌, ◌++◌, map, length, take, drop, get_or, suc, ap, ◌∙◌, sym, arith, append_assoc, eqb}
+use Rattle.checkpoints.proofs.Prelude.{enumerate_from, flat_map, IsSortedBy, IsSortedByKey, is_lt, pointwise, split_at, take_more, drop_more, drop-map}
+use Rattle.checkpoints.proofs.Prelude.{length-map, get_or-map, length-append, length-take-le, append-nil, flat_map-append, length-enumerate_from, path_cmp}
+use Rattle.checkpoints.proofs.Prelude.{starts_at, Numbered, paths_in, IsPlace}
 
 -- x stands at this place
 pub record IsAt {X : Type 0} (xs : List X) (i : ℕ) (x : X) : Type 0 where

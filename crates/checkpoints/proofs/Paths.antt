@@ -1,19 +1,9 @@
 -- The paths of a checkpoint's files: that of the list file stands in the folder, and is none of the ranks'.
-use Rattle.std.proofs.Common.{◌≡◌, ℕ, ◌+◌, ◌<◌, ◌≤◌, ◌^◌, zero, suc, Bool, true, false, cond, eqb, None, List, [], ◌∷◌, ◌++◌, length}
-use Rattle.std.proofs.Common.{get_or, refl, ap, sym, ◌∙◌, arith}
-use Rattle.std.specs.Prelude.{codes, nat_eq}
+use Rattle.checkpoints.proofs.Prelude.{◌≡◌, ℕ, ◌+◌, ◌<◌, ◌≤◌, ◌^◌, zero, suc, Bool, true, false, cond, eqb, None, List, [], ◌∷◌, ◌++◌, length, get_or, refl, ap}
+use Rattle.checkpoints.proofs.Prelude.{sym, ◌∙◌, arith, codes, nat_eq, decimal, pointwise, decimal_digit, decimal_nonempty, first_decimal, append_cancel_left}
+use Rattle.checkpoints.proofs.Prelude.{get_or_append_left, refusal, is_name, parent_of, is_root, joined_length, file_name, file_path, parent_joined, differ}
+use Rattle.checkpoints.proofs.Prelude.{same_name, list_path}
 use Rattle.std.specs.Bool.{IsTrue}
-use Rattle.std.specs.Fmt.{decimal}
-use Rattle.std.specs.Cmp.Lexicographic.{pointwise}
-use Rattle.std.proofs.lemmas.Fmt.{decimal_digit, decimal_nonempty, first_decimal}
-use Rattle.std.proofs.lemmas.List.{append_cancel_left, get_or_append_left}
-use Rattle.path_text.specs.Path.{refusal, is_name, parent_of}
-use Rattle.outside.specs.Tree.{is_root}
-use Rattle.path_text.proofs.Joined.{joined_length}
-use Rattle.circle_lists.specs.Checkpoint.{file_name, file_path}
-use Rattle.path_text.proofs.Parents.{parent_joined}
-use Rattle.circle_lists.proofs.Places.{differ, same_name}
-use Rattle.checkpoints.specs.Kept.{list_path}
 
 pub name_fine : IsTrue (is_name (codes "circle.list"))
 name_fine = refl

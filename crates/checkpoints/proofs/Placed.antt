@@ -1,17 +1,9 @@
 -- What the lowest number of a misplaced left string tells.
-use Rattle.std.proofs.Common.{◌≡◌, ℕ, ◌+◌, ◌<◌, true, ◌||◌, List, [], ◌∷◌, ◌++◌, length, refl, ap, ◌∙◌, sym, subst, arith, cond, Bool}
-use Rattle.std.proofs.Common.{Option, Some, None, append_assoc}
-use Rattle.std.specs.Prelude.{nat_lt}
-use Rattle.std.specs.List.{list_any, count_by, enumerate_from, flat_map}
-use Rattle.std.specs.List.Sorted.{IsPermutation}
-use Rattle.std.proofs.lemmas.List.{length-append}
-use Rattle.std.proofs.lemmas.List.Concat.{flat_map-append}
-use Rattle.std.proofs.lemmas.List.FromFn.{length-enumerate_from, get_or-enumerate_from}
-use Rattle.std.proofs.lemmas.List.Sorted.{All-permutation, IsPermutation-sym, IsPermutation-map, Contains-permutation, sum_by-IsPermutation}
-use Rattle.entry_pages.specs.declared.entries.Entry.{Entry}
-use Rattle.tree_walk.specs.Roots.{is_in}
-use Rattle.checkpoints.specs.Placing.{clashes, is_misplaced, ArePlaced, IsFirstMisplaced}
-use Rattle.checkpoints.specs.Passing.{Numbered, paths_in, IsUpTo, IsLowest, IsPlace}
+use Rattle.checkpoints.proofs.Prelude.{◌≡◌, ℕ, ◌+◌, ◌<◌, true, ◌||◌, List, [], ◌∷◌, ◌++◌, length, refl, ap, ◌∙◌, sym, subst, arith, cond, Bool, Option, Some}
+use Rattle.checkpoints.proofs.Prelude.{None, append_assoc, nat_lt, list_any, count_by, enumerate_from, flat_map, IsPermutation, length-append, flat_map-append}
+use Rattle.checkpoints.proofs.Prelude.{length-enumerate_from, get_or-enumerate_from, All-permutation, IsPermutation-sym, IsPermutation-map}
+use Rattle.checkpoints.proofs.Prelude.{Contains-permutation, sum_by-IsPermutation, Entry, is_in, clashes, is_misplaced, ArePlaced, IsFirstMisplaced, Numbered}
+use Rattle.checkpoints.proofs.Prelude.{paths_in, IsUpTo, IsLowest, IsPlace}
 use Rattle.checkpoints.proofs.Lowest.{none_passes, before_passes, this_passes}
 use Rattle.checkpoints.proofs.Numbers.{flat_of}
 

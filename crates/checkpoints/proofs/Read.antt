@@ -1,19 +1,9 @@
 -- What a reader that went back was asked for, as the files see it; and where a misplaced string stands.
-use Rattle.std.proofs.Common.{◌≡◌, ℕ, ◌<◌, ◌≤◌, List, [], ◌∷◌, ◌++◌, length, get_or, Option, None, refl, ap, ◌∙◌}
-use Rattle.std.proofs.Common.{subst, arith, length-append}
-use Rattle.std.proofs.Math.Seq.{get_or-append_seam}
-use Rattle.outside.specs.Tree.{Files}
-use Rattle.entry_pages.specs.declared.entries.Entry.{Entry}
-use Rattle.circle_lists.specs.declared.errors.ListsError.{ListsError}
+use Rattle.checkpoints.proofs.Prelude.{◌≡◌, ℕ, ◌<◌, ◌≤◌, List, [], ◌∷◌, ◌++◌, length, get_or, Option, None, refl, ap, ◌∙◌, subst, arith, get_or-append_seam}
+use Rattle.checkpoints.proofs.Prelude.{Files, Entry, ListsError, StopsReading, stops_later, Stop, Side, IsRead, list_path, IsFirstMisplaced, stop_of_lists}
+use Rattle.checkpoints.proofs.Prelude.{HasNoRanks}
+use Rattle.std.proofs.Common.{length-append}
 use Rattle.circle_lists.specs.declared.errors.ListsError.TheVariants as error
-use Rattle.circle_lists.specs.Checkpoint.{StopsReading}
-use Rattle.circle_lists.proofs.Told.{stops_later}
-use Rattle.run_report.specs.declared.stops.Stop.{Stop}
-use Rattle.run_report.specs.Sides.{Side}
-use Rattle.run_entries.specs.Entries.{IsRead}
-use Rattle.checkpoints.specs.Kept.{list_path}
-use Rattle.checkpoints.specs.Placing.{IsFirstMisplaced}
-use Rattle.checkpoints.specs.Stopping.{stop_of_lists, HasNoRanks}
 
 -- no memory for the first file
 pub starved : (dir : List ℕ) (tree : Option Files) (before after : ℕ) → StopsReading dir tree before after error.OutOfMemory

@@ -1,16 +1,9 @@
 -- The old list file is removed, or why it is not.
-use Rattle.std.proofs.Common.{◌≡◌, inl, inr, ℕ, Bool, true, false, cond, List, Option, Some, None, refl, sym, subst}
-use Rattle.std.specs.Prelude.{⊤, IfSome, IsTrue, OnErr, OnOk, Result, Ok, Err}
-use Rattle.std.proofs.lemmas.Bool.{false≢true}
-use Rattle.std.specs.FinMap.{get, remove}
-use Rattle.outside.specs.Tree.{Files, Node, is_dir}
-use Rattle.outside.specs.Writes.{Answers, SameBut, may_change, remove_file_refusal}
-use Rattle.outside.specs.declared.plots.WriteError.{WriteError}
+use Rattle.checkpoints.proofs.Prelude.{◌≡◌, inl, inr, ℕ, Bool, true, false, cond, List, Option, Some, None, refl, sym, subst, ⊤, IfSome, IsTrue, OnErr, OnOk}
+use Rattle.checkpoints.proofs.Prelude.{Result, Ok, Err, false≢true, get, remove, Files, Node, is_dir, Answers, SameBut, may_change, remove_file_refusal}
+use Rattle.checkpoints.proofs.Prelude.{WriteError, removed_one, Stop, IsGone, IsMeant}
 use Rattle.outside.specs.declared.plots.WriteError.TheVariants as write
-use Rattle.outside.proofs.Saved.{removed_one, refused as all_but_one}
-use Rattle.run_report.specs.declared.stops.Stop.{Stop}
-use Rattle.checkpoints.specs.Stopping.{IsGone}
-use Rattle.checkpoints.specs.PrivateRemoval.{IsMeant}
+use Rattle.outside.proofs.Saved.{refused as all_but_one}
 
 -- what the removal of a file at the path answered, over files that tell their tree
 abbrev pub Removal : List ℕ → Files → Result (Unit {0}) WriteError → Option Files → Type 0

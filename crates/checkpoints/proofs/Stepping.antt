@@ -1,12 +1,7 @@
 -- A list of which the next entry is at hand: what is passed and what is ahead after a step.
-use Rattle.std.proofs.Common.{◌≡◌, ℕ, ◌+◌, ◌-◌, ◌<◌, ◌≤◌, Bool, true, false, not, List, [], ◌∷◌, ◌++◌, length, take, drop, None}
-use Rattle.std.proofs.Common.{refl, ap, sym, ◌∙◌, arith, append_assoc}
-use Rattle.std.proofs.lemmas.Bool.Decides.{nat_tests}
-use Rattle.std.proofs.lemmas.List.{drop_more, drop_all, take_more, take_all}
-use Rattle.entry_pages.specs.declared.entries.Entry.{Entry}
+use Rattle.checkpoints.proofs.Prelude.{◌≡◌, ℕ, ◌+◌, ◌-◌, ◌<◌, ◌≤◌, Bool, true, false, not, List, [], ◌∷◌, ◌++◌, length, take, drop, None, refl, ap, sym, ◌∙◌}
+use Rattle.checkpoints.proofs.Prelude.{arith, append_assoc, nat_tests, drop_more, drop_all, take_more, take_all, Entry, Stepped, passed_of, ahead_of, moved}
 use Rattle.entry_pages.specs.declared.entries.Mark.TheVariants as mark
-use Rattle.flat_list.proofs.Sourced.{Stepped}
-use Rattle.checkpoints.specs.Passing.{passed_of, ahead_of, moved}
 
 no_entry : Entry
 no_entry = record { path = []; stat = None; mark = mark.Fine; unnamed = 0; far = 0; target = None }

@@ -1,22 +1,11 @@
 -- Why no checkpoint was written, step by step.
-use Rattle.std.proofs.Common.{◌≡◌, ◌⊎◌, inl, inr, ℕ, ◌<◌, ◌≤◌, List, Some, refl, sym, subst}
-use Rattle.std.specs.Prelude.{IfErr, IfSome, Result, Ok, Err, is_some}
-use Rattle.outside.specs.Count.{RoseBy}
-use Rattle.outside.specs.declared.plots.WriteError.{WriteError}
+use Rattle.checkpoints.proofs.Prelude.{◌≡◌, ◌⊎◌, inl, inr, ℕ, ◌<◌, ◌≤◌, List, Some, refl, sym, subst, IfErr, IfSome, Result, Ok, Err, is_some, RoseBy}
+use Rattle.checkpoints.proofs.Prelude.{WriteError, Entry, ListsError, HasPlace, SameButFiles, Stop, Side, output_of, StopsSaving, list_path, IsMeant}
+use Rattle.checkpoints.proofs.Prelude.{stop_of_lists, IsCleared, StopsWriting}
 use Rattle.outside.specs.declared.plots.WriteError.TheVariants as write
-use Rattle.entry_pages.specs.declared.entries.Entry.{Entry}
-use Rattle.circle_lists.specs.declared.errors.ListsError.{ListsError}
-use Rattle.circle_lists.specs.Checkpoint.{HasPlace, SameButFiles}
 use Rattle.circle_lists.specs.Checkpoint as lists
 use Rattle.run_report.specs.declared.stops.Trouble.TheVariants as trouble
-use Rattle.run_report.specs.declared.stops.Stop.{Stop}
 use Rattle.run_report.specs.declared.stops.Stop.TheVariants as stop
-use Rattle.run_report.specs.Sides.{Side}
-use Rattle.run_entries.specs.Saving.{output_of}
-use Rattle.run_entries.specs.Stopping.{StopsSaving}
-use Rattle.checkpoints.specs.Kept.{list_path}
-use Rattle.checkpoints.specs.PrivateRemoval.{IsMeant}
-use Rattle.checkpoints.specs.Stopping.{stop_of_lists, IsCleared, StopsWriting}
 
 -- why the old list file is not removed
 abbrev pub NotRemoved : List ℕ → ℕ → ℕ → Stop → Type 0

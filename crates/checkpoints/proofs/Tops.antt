@@ -1,22 +1,10 @@
 -- Of paths in path order the last one that is in no earlier one covers, of all that follows, what any of them covers.
-use Rattle.std.proofs.Common.{◌≡◌, ℕ, ◌<◌, ◌≤◌, Bool, true, false, ◌&&◌, ◌||◌, List, [], ◌∷◌, ◌++◌, length, refl, ap, ◌∙◌, sym, subst, arith, cond}
-use Rattle.std.proofs.Common.{Option, Some, None, length-append}
-use Rattle.std.specs.Prelude.{◌==◌}
-use Rattle.std.specs.List.{AllByRecursion, list_any}
-use Rattle.std.specs.Ordering.{nat_cmp, ordering_then, is_lt, ordering_reverse}
-use Rattle.std.specs.declared.cmp.Ordering.{Ordering}
-use Rattle.std.specs.declared.cmp.Ordering.TheVariants.{Less, Equal, Greater}
-use Rattle.std.proofs.lemmas.Bool.{false≢true, and_parts}
-use Rattle.std.proofs.lemmas.Bool.Decides.{nat_tests}
-use Rattle.path_text.specs.Order.{path_cmp, byte_rank, front}
-use Rattle.path_text.specs.Total.{path_cmp_total, path_cmp_same}
-use Rattle.path_text.proofs.Preorder.{precedes}
-use Rattle.tree_walk.specs.Roots.{is_in}
-use Rattle.tree_walk.proofs.Inside.{begins, is_in_is, in_itself, in_trans, begins-itself, begins-less, begins-length}
-use Rattle.tree_walk.proofs.Covers.{in_line, not_both}
-use Rattle.tree_walk.proofs.Rooted.{before_later}
-use Rattle.checkpoints.specs.Passing.{Behind, AllBehind, covered, top_with, IsTop}
-use Rattle.tree_walk.proofs.InBytes.{is_one}
+use Rattle.checkpoints.proofs.Prelude.{◌≡◌, ℕ, ◌<◌, ◌≤◌, Bool, true, false, ◌&&◌, ◌||◌, List, [], ◌∷◌, ◌++◌, length, refl, ap, ◌∙◌, sym, subst, arith, cond}
+use Rattle.checkpoints.proofs.Prelude.{Option, Some, None, ◌==◌, AllByRecursion, list_any, nat_cmp, ordering_then, is_lt, ordering_reverse, Ordering, Less}
+use Rattle.checkpoints.proofs.Prelude.{Equal, Greater, false≢true, and_parts, nat_tests, path_cmp, byte_rank, front, path_cmp_total, path_cmp_same, precedes}
+use Rattle.checkpoints.proofs.Prelude.{is_in, begins, is_in_is, in_itself, in_trans, begins-itself, begins-less, begins-length, in_line, not_both, before_later}
+use Rattle.checkpoints.proofs.Prelude.{Behind, AllBehind, covered, top_with, IsTop, is_one}
+use Rattle.std.proofs.Common.{length-append}
 
 -- ---- what stands behind a path
 

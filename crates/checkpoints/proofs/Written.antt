@@ -1,23 +1,9 @@
 -- What stands after the files of a checkpoint are written.
-use Rattle.std.proofs.Common.{◌≡◌, ◌⊎◌, inl, inr, ℕ, ◌+◌, ◌<◌, ◌≤◌, zero, suc, Bool, true, false, ◌||◌, List, [], ◌∷◌, map, length, Option, Some, None}
-use Rattle.std.proofs.Common.{refl, ap, sym, ◌∙◌, subst, arith, add-zero, zero-add}
-use Rattle.std.specs.Prelude.{IfSome, is_some, nat_eq}
-use Rattle.std.specs.List.{list_any, range_with_len}
-use Rattle.std.specs.Cmp.Lexicographic.{pointwise}
-use Rattle.std.specs.FinMap.{get, insert}
-use Rattle.std.proofs.lemmas.Bool.{false≢true, or_parts}
-use Rattle.outside.specs.Tree.{Files, is_dir}
-use Rattle.outside.specs.Writes.{SameBut, new_file}
-use Rattle.outside.specs.Whole.{HoldsFile}
-use Rattle.outside.proofs.Saved.{put_one}
-use Rattle.entry_pages.specs.declared.entries.Entry.{Entry}
-use Rattle.flat_list.specs.Spelling.{Spells}
-use Rattle.flat_list.specs.declared.versions.Version.TheVariants.{Two}
-use Rattle.circle_lists.specs.Checkpoint.{file_path, HoldLists, SameButFiles}
-use Rattle.run_report.specs.Sides.{Side}
-use Rattle.run_entries.specs.Saving.{Saved, output_of, SameButAll, SameButOutputs}
-use Rattle.checkpoints.specs.Kept.{list_path, checkpoint_paths, IsKept, HoldsNewest}
-use Rattle.checkpoints.specs.Stopping.{IsCleared, IsGone, IsTorn}
+use Rattle.checkpoints.proofs.Prelude.{◌≡◌, ◌⊎◌, inl, inr, ℕ, ◌+◌, ◌<◌, ◌≤◌, zero, suc, Bool, true, false, ◌||◌, List, [], ◌∷◌, map, length, Option, Some, None}
+use Rattle.checkpoints.proofs.Prelude.{refl, ap, sym, ◌∙◌, subst, arith, add-zero, zero-add, IfSome, is_some, nat_eq, list_any, range_with_len, pointwise, get}
+use Rattle.checkpoints.proofs.Prelude.{insert, false≢true, or_parts, Files, is_dir, SameBut, new_file, HoldsFile, put_one, Entry, Spells, Two, file_path}
+use Rattle.checkpoints.proofs.Prelude.{HoldLists, SameButFiles, Side, Saved, output_of, SameButAll, SameButOutputs, list_path, checkpoint_paths, IsKept}
+use Rattle.checkpoints.proofs.Prelude.{HoldsNewest, IsCleared, IsGone, IsTorn}
 use Rattle.checkpoints.proofs.Paths.{file_differs, list_differs}
 
 -- ---- what the files hold

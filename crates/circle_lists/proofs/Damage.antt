@@ -1,14 +1,8 @@
 -- Where the lines of a text stop to be those of the file of a rank: what holds of all files of whole lines, for paths.
-use Rattle.std.proofs.Common.{◌≡◌, ℕ, suc, ◌+◌, ◌-◌, ◌<◌, ◌^◌, List, [], ◌∷◌, ◌++◌, length, take, refl, ap, sym, ◌∙◌, subst, arith}
-use Rattle.std.proofs.Common.{length-append, Option}
-use Rattle.std.specs.List.{flat_map}
-use Rattle.std.proofs.lemmas.List.{length-map}
-use Rattle.path_text.specs.Escape.{escape, ReadingUndoesWriting}
-use Rattle.whole_lines.specs.Lines.{line, lines_of, end_text}
-use Rattle.whole_lines.proofs.Lines.{all_more, line_same, joined_lines}
+use Rattle.circle_lists.proofs.Prelude.{◌≡◌, ℕ, suc, ◌+◌, ◌-◌, ◌<◌, ◌^◌, List, [], ◌∷◌, ◌++◌, length, take, refl, ap, sym, ◌∙◌, subst, arith, length-append}
+use Rattle.circle_lists.proofs.Prelude.{Option, flat_map, length-map, escape, ReadingUndoesWriting, line, lines_of, end_text, all_more, line_same, joined_lines}
+use Rattle.circle_lists.proofs.Prelude.{Form, cons_parts, IsRank, head_text, IsWritable, IsList, path_lines, lines_for, Spells, Agrees, Begins, IsDamaged}
 use Rattle.whole_lines.proofs.WholeLines as whole
-use Rattle.whole_lines.proofs.WholeLines.{Form, cons_parts}
-use Rattle.circle_lists.specs.Spelling.{IsRank, head_text, IsWritable, IsList, path_lines, lines_for, Spells, Agrees, Begins, IsDamaged}
 use Rattle.circle_lists.proofs.Paths.{same_path, end_apart}
 
 pub list_more : (ps : List (List ℕ)) (p : List ℕ) → IsList ps → IsWritable p → length ps + 1 < 2 ^ 64 → IsList (ps ++ p ∷ [])

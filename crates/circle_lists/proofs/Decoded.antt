@@ -1,21 +1,10 @@
 -- The steps of reading the file of a rank.
-use Rattle.std.proofs.Common.{◌≡◌, ◌≢◌, inl, inr, ℕ, ◌+◌, ◌<◌, ◌≤◌, ◌^◌, List, [], ◌∷◌, ◌++◌, length, take, Option, Some, None}
-use Rattle.std.proofs.Common.{length-append, refl, ap, sym, ◌∙◌, subst, arith, append_assoc}
-use Rattle.std.specs.Prelude.{codes}
-use Rattle.std.specs.Fmt.{decimal}
-use Rattle.std.specs.Str.{IsUtf8}
-use Rattle.std.proofs.lemmas.List.{map-append, nil_from_length}
-use Rattle.path_text.specs.Escape.{escape, ReadingUndoesWriting}
-use Rattle.whole_lines.specs.Lines.{line, lines_of, end_text}
-use Rattle.whole_lines.specs.Words.{cut, path_from}
-use Rattle.whole_lines.proofs.Words.{cut_takes}
-use Rattle.whole_lines.proofs.Lines.{line_same, line_first, free_uncut, torn, no_lines}
-use Rattle.whole_lines.proofs.WholeLines.{cons_parts}
-use Rattle.circle_lists.specs.declared.decoding.Refused.{Refused}
+use Rattle.circle_lists.proofs.Prelude.{◌≡◌, ◌≢◌, inl, inr, ℕ, ◌+◌, ◌<◌, ◌≤◌, ◌^◌, List, [], ◌∷◌, ◌++◌, length, take, Option, Some, None, length-append, refl}
+use Rattle.circle_lists.proofs.Prelude.{ap, sym, ◌∙◌, subst, arith, append_assoc, codes, decimal, IsUtf8, map-append, nil_from_length, escape}
+use Rattle.circle_lists.proofs.Prelude.{ReadingUndoesWriting, line, lines_of, end_text, cut, path_from, cut_takes, line_same, line_first, free_uncut, torn}
+use Rattle.circle_lists.proofs.Prelude.{no_lines, cons_parts, Refused, IsRank, head_text, path_lines, Spells, Agrees, Begins, IsDamaged, most_ranks, IsHead}
+use Rattle.circle_lists.proofs.Prelude.{HeadsNone, IsCause, Ends, EndsBadly, path_takes, path_again}
 use Rattle.circle_lists.specs.declared.decoding.Refused.TheVariants as refused
-use Rattle.circle_lists.specs.Spelling.{IsRank, head_text, path_lines, Spells, Agrees, Begins, IsDamaged}
-use Rattle.circle_lists.specs.Private.{most_ranks, IsHead, HeadsNone, IsCause, Ends, EndsBadly}
-use Rattle.whole_lines.proofs.Paths.{path_takes, path_again}
 use Rattle.circle_lists.proofs.Damage.{no_list, list_more, Reader, Stands, spelled, damaged_here, damaged_after}
 
 -- ---- the head

@@ -1,8 +1,5 @@
 -- The steps of writing the file of a rank.
-use Rattle.std.proofs.Common.{◌≡◌, ℕ, ◌+◌, List, ◌++◌, take}
-use Rattle.std.specs.List.{AllByRecursion, flat_map}
-use Rattle.whole_lines.specs.Lines.{line}
-use Rattle.circle_lists.specs.Spelling.{head_text, IsWritable, path_lines}
+use Rattle.circle_lists.proofs.Prelude.{◌≡◌, ℕ, ◌+◌, List, ◌++◌, take, AllByRecursion, flat_map, line, head_text, IsWritable, path_lines}
 
 -- what is written of so many paths: the head and their lines
 pub record Written (text : List ℕ) (rank ranks : ℕ) (ps : List (List ℕ)) (i : ℕ) : Type 0 where

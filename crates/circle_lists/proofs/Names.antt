@@ -1,14 +1,6 @@
 -- The name of a rank's file: it may stand after a `/`, and tells the rank.
-use Rattle.std.proofs.Common.{◌≡◌, ℕ, ◌+◌, ◌<◌, ◌≤◌, ◌^◌, ◌%◌, Bool, false, ◌||◌, List, [], ◌∷◌, ◌++◌, refl, ap, ◌∙◌, arith}
-use Rattle.std.specs.Prelude.{◌==◌, codes}
-use Rattle.std.specs.Bool.{IsTrue}
-use Rattle.std.specs.Fmt.{decimal}
-use Rattle.std.specs.List.{list_any}
-use Rattle.std.proofs.lemmas.Fmt.{decimal_by_steps}
-use Rattle.std.proofs.lemmas.List.Folds.{list_any-append}
-use Rattle.std.proofs.lemmas.Bool.Decides.{nat_tests}
-use Rattle.path_text.specs.Path.{is_slash, is_name}
-use Rattle.circle_lists.specs.Checkpoint.{file_name}
+use Rattle.circle_lists.proofs.Prelude.{◌≡◌, ℕ, ◌+◌, ◌<◌, ◌≤◌, ◌^◌, ◌%◌, Bool, false, ◌||◌, List, [], ◌∷◌, ◌++◌, refl, ap, ◌∙◌, arith, ◌==◌, codes, IsTrue}
+use Rattle.circle_lists.proofs.Prelude.{decimal, list_any, decimal_by_steps, list_any-append, nat_tests, is_slash, is_name, file_name}
 
 -- a test that no byte from 48 on passes is passed by no digit
 no_digit : (p : ℕ → Bool) → ((d : ℕ) → 48 ≤ d → p d ≡ false) → (k : ℕ) → k < 2 ^ 64 → list_any p (decimal k) ≡ false

@@ -1,19 +1,7 @@
 -- The line of a path: it has no line feed, tells the path, and is no end line. And the head's.
-use Rattle.std.proofs.Common.{◌≡◌, ℕ, ◌<◌, ◌^◌, List, [], ◌∷◌, ◌++◌, get_or, Option, Some, None}
-use Rattle.std.proofs.Common.{Ok, refl, ap, sym, ◌∙◌, arith}
-use Rattle.std.specs.Prelude.{codes}
-use Rattle.std.specs.Fmt.{decimal}
-use Rattle.std.proofs.lemmas.List.{append_cancel_left}
-use Rattle.std.proofs.lemmas.Fmt.{decimal_injective}
-use Rattle.path_text.specs.Path.{refusal}
-use Rattle.path_text.specs.Escape.{escape, reading, ReadingUndoesWriting}
-use Rattle.path_text.proofs.Joined.{first_slash}
-use Rattle.whole_lines.specs.Lines.{end_text}
-use Rattle.whole_lines.specs.Words.{cut}
-use Rattle.whole_lines.proofs.Words.{IsFree, cut_again}
-use Rattle.whole_lines.proofs.Numbers.{decimal_free}
-use Rattle.whole_lines.proofs.Escapes.{free-append}
-use Rattle.circle_lists.specs.Spelling.{IsRank, head_text, IsWritable}
+use Rattle.circle_lists.proofs.Prelude.{◌≡◌, ℕ, ◌<◌, ◌^◌, List, [], ◌∷◌, ◌++◌, get_or, Option, Some, None, Ok, refl, ap, sym, ◌∙◌, arith, codes, decimal}
+use Rattle.circle_lists.proofs.Prelude.{append_cancel_left, decimal_injective, refusal, escape, reading, ReadingUndoesWriting, first_slash, end_text, cut}
+use Rattle.circle_lists.proofs.Prelude.{IsFree, cut_again, decimal_free, free-append, IsRank, head_text, IsWritable}
 
 -- ---- paths
 

@@ -1,15 +1,7 @@
 -- The paths of the files of a checkpoint: each stands in the folder, and no two are the same.
-use Rattle.std.proofs.Common.{◌≡◌, ℕ, ◌+◌, ◌<◌, Bool, true, false, cond, eqb, None, List, [], ◌∷◌, ◌++◌}
-use Rattle.std.proofs.Common.{length, refl, ap, sym, ◌∙◌, arith, append_assoc}
-use Rattle.std.specs.Prelude.{codes, nat_eq}
-use Rattle.std.specs.Fmt.{decimal}
-use Rattle.std.specs.Cmp.Lexicographic.{pointwise, bytes_decides}
-use Rattle.std.proofs.lemmas.Fmt.{decimal_injective}
-use Rattle.std.proofs.lemmas.List.{append_cancel_left, append_cancel_right}
-use Rattle.path_text.specs.Path.{refusal, joined, parent_of}
-use Rattle.path_text.proofs.Joined.{joined_length}
-use Rattle.path_text.proofs.Parents.{parent_joined}
-use Rattle.circle_lists.specs.Checkpoint.{file_name, file_path}
+use Rattle.circle_lists.proofs.Prelude.{◌≡◌, ℕ, ◌+◌, ◌<◌, Bool, true, false, cond, eqb, None, List, [], ◌∷◌, ◌++◌, length, refl, ap, sym, ◌∙◌, arith}
+use Rattle.circle_lists.proofs.Prelude.{append_assoc, codes, nat_eq, decimal, pointwise, bytes_decides, decimal_injective, append_cancel_left}
+use Rattle.circle_lists.proofs.Prelude.{append_cancel_right, refusal, joined, parent_of, joined_length, parent_joined, file_name, file_path}
 use Rattle.circle_lists.proofs.Names.{name_bare}
 
 -- ---- the folder of a file

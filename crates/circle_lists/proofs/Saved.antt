@@ -1,21 +1,9 @@
 -- The steps of writing the files of a checkpoint: what one of them changes, and what stands after several.
-use Rattle.std.proofs.Common.{◌≡◌, inl, inr, ℕ, ◌+◌, ◌<◌, ◌≤◌, true, false, not, ◌&&◌, ◌||◌, List, [], get_or, Option, Some, None}
-use Rattle.std.proofs.Common.{refl, ap, sym, ◌∙◌, subst, arith}
-use Rattle.std.specs.Prelude.{IfSome, is_some, is_none, nat_eq}
-use Rattle.std.specs.Cmp.Lexicographic.{pointwise}
-use Rattle.std.specs.FinMap.{get, insert}
-use Rattle.std.proofs.lemmas.Bool.{false≢true, cases_lt}
-use Rattle.path_text.specs.Path.{refusal, parent_of}
-use Rattle.outside.specs.Tree.{Files, is_file, is_dir, is_root}
-use Rattle.outside.specs.Count.{RoseBy}
-use Rattle.outside.specs.Writes.{new_file, SameBut}
-use Rattle.outside.specs.Whole.{HoldsFile, can_save}
-use Rattle.outside.proofs.Saved.{put_one}
-use Rattle.circle_lists.specs.declared.errors.ListsError.{ListsError}
+use Rattle.circle_lists.proofs.Prelude.{◌≡◌, inl, inr, ℕ, ◌+◌, ◌<◌, ◌≤◌, true, false, not, ◌&&◌, ◌||◌, List, [], get_or, Option, Some, None, refl, ap, sym, ◌∙◌}
+use Rattle.circle_lists.proofs.Prelude.{subst, arith, IfSome, is_some, is_none, nat_eq, pointwise, get, insert, false≢true, cases_lt, refusal, parent_of, Files}
+use Rattle.circle_lists.proofs.Prelude.{is_file, is_dir, is_root, RoseBy, new_file, SameBut, HoldsFile, can_save, put_one, ListsError, Spells, file_path}
+use Rattle.circle_lists.proofs.Prelude.{HoldsList, HoldFirst, SameButFiles, HasPlace, HasNoPlace, StopsWritingAt}
 use Rattle.circle_lists.specs.declared.errors.ListsError.TheVariants as error
-use Rattle.circle_lists.specs.Spelling.{Spells}
-use Rattle.circle_lists.specs.Checkpoint.{file_path, HoldsList, HoldFirst, SameButFiles, HasPlace, HasNoPlace}
-use Rattle.circle_lists.specs.Checkpoint.{StopsWritingAt}
 use Rattle.circle_lists.proofs.Places.{parent_of_file, folder_differs, files_differ, later_differs}
 
 -- what a save that succeeded says

@@ -1,14 +1,8 @@
 -- The steps of reading the files of a checkpoint.
-use Rattle.std.proofs.Common.{◌≡◌, inl, inr, ℕ, ◌<◌, ◌≤◌, List, [], ◌∷◌, ◌++◌, length, get_or, map, Option, Some, None, length-append, ap, sym, ◌∙◌}
-use Rattle.std.proofs.Common.{subst, arith}
-use Rattle.std.specs.Prelude.{IfSome}
-use Rattle.std.proofs.lemmas.Bool.{cases_lt}
-use Rattle.std.proofs.lemmas.List.{get_or_append_left, map-append}
-use Rattle.std.proofs.Math.Seq.{get_or-append_seam}
-use Rattle.outside.specs.Tree.{Files}
-use Rattle.circle_lists.specs.declared.errors.ListsError.{ListsError}
+use Rattle.circle_lists.proofs.Prelude.{◌≡◌, inl, inr, ℕ, ◌<◌, ◌≤◌, List, [], ◌∷◌, ◌++◌, length, get_or, map, Option, Some, None, length-append, ap, sym, ◌∙◌}
+use Rattle.circle_lists.proofs.Prelude.{subst, arith, IfSome, cases_lt, get_or_append_left, map-append, get_or-append_seam, Files, ListsError, Fits, AllFit}
+use Rattle.circle_lists.proofs.Prelude.{HoldsList, HoldFirst, Reached, StopsReadingAt}
 use Rattle.circle_lists.specs.declared.errors.ListsError.TheVariants as error
-use Rattle.circle_lists.specs.Checkpoint.{Fits, AllFit, HoldsList, HoldFirst, Reached, StopsReadingAt}
 use Rattle.circle_lists.proofs.Saved.{counted}
 
 -- the lists that were read so far

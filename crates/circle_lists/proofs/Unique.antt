@@ -1,21 +1,12 @@
 -- A rank's list has one text, a text is one list's, and it is damaged at one line at most.
-use Rattle.std.proofs.Common.{◌≡◌, ℕ, zero, suc, ◌+◌, ◌-◌, ◌<◌, inl, inr, List, [], ◌∷◌, ◌++◌, length, get_or, take, refl, ap, sym, ◌∙◌, subst, arith}
-use Rattle.std.proofs.Common.{append_assoc, append-nil, Option}
-use Rattle.std.specs.List.{AllByRecursion, flat_map}
-use Rattle.std.proofs.lemmas.Bool.{cases_lt}
-use Rattle.std.proofs.lemmas.List.{append_cancel_left, ext_get_or, take-take}
-use Rattle.path_text.specs.Escape.{escape, ReadingUndoesWriting}
-use Rattle.outside.specs.Tree.{Files}
-use Rattle.whole_lines.specs.Lines.{line, lines_of, end_text}
-use Rattle.whole_lines.proofs.Ends.{end_free}
-use Rattle.whole_lines.proofs.Lines.{line_first, line_same, flat_end, no_lines}
+use Rattle.circle_lists.proofs.Prelude.{◌≡◌, ℕ, zero, suc, ◌+◌, ◌-◌, ◌<◌, inl, inr, List, [], ◌∷◌, ◌++◌, length, get_or, take, refl, ap, sym, ◌∙◌, subst, arith}
+use Rattle.circle_lists.proofs.Prelude.{append_assoc, append-nil, Option, AllByRecursion, flat_map, cases_lt, append_cancel_left, ext_get_or, take-take, escape}
+use Rattle.circle_lists.proofs.Prelude.{ReadingUndoesWriting, Files, line, lines_of, end_text, end_free, line_first, line_same, flat_end, no_lines, cons_parts}
+use Rattle.circle_lists.proofs.Prelude.{head_text, IsWritable, path_lines, lines_for, Spells, Begins, IsDamaged, SpellsOne, DamagedOnce, HoldsList, ReadsBack}
+use Rattle.circle_lists.proofs.Prelude.{escape_free}
 use Rattle.whole_lines.proofs.WholeLines as whole
-use Rattle.whole_lines.proofs.WholeLines.{cons_parts}
-use Rattle.circle_lists.specs.Spelling.{head_text, IsWritable, path_lines, lines_for, Spells, Begins, IsDamaged, SpellsOne, DamagedOnce}
-use Rattle.circle_lists.specs.Checkpoint.{HoldsList, ReadsBack}
 use Rattle.circle_lists.proofs.Paths.{head_free, same_head}
 use Rattle.circle_lists.proofs.Damage.{form, is_final, same_lines}
-use Rattle.whole_lines.proofs.Escapes.{escape_free}
 
 -- ---- the lines of a text
 

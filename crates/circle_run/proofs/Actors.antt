@@ -1,12 +1,7 @@
 -- Whose the events of moves are, and by which of them no string is handled.
-use Rattle.std.proofs.Common.{◌≡◌, ℕ, ◌≢◌, ◌⊎◌, inl, inr, refl, sym, ◌∙◌, false, List, [], ◌∷◌, ◌++◌, map, ne_eqb}
-use Rattle.ring_core.specs.declared.events.Event.{Event}
-use Rattle.ring_core.specs.declared.events.Event.TheVariants.{Handle}
-use Rattle.post_board.specs.Shown.{Strings}
-use Rattle.post_board.specs.Deeds.{Deed, ask, give, refuse, take, take_none, pass, restart, conclude, see_over, event_of, withdraw, halt, stop}
-use Rattle.circle_run.specs.Moves.{Move, handled, served, did, noted, answer_of, events_of}
-use Rattle.circle_run.specs.Stages.{events_of_all}
-use Rattle.circle_run.specs.Fair.{actor, handles, ComesBefore, moves_in}
+use Rattle.circle_run.proofs.Prelude.{◌≡◌, ℕ, ◌≢◌, ◌⊎◌, inl, inr, refl, sym, ◌∙◌, false, List, [], ◌∷◌, ◌++◌, map, ne_eqb, Event, Handle, Strings, Deed, ask}
+use Rattle.circle_run.proofs.Prelude.{give, refuse, take, take_none, pass, restart, conclude, see_over, event_of, withdraw, halt, stop, Move, handled, served}
+use Rattle.circle_run.proofs.Prelude.{did, noted, answer_of, events_of, events_of_all, actor, handles, ComesBefore, moves_in}
 
 -- the events are all of one rank
 abbrev pub By : ℕ → List Event → Type 0

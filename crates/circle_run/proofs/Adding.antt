@@ -1,15 +1,8 @@
 -- That a count rises changes no word of the sums, so that a word adds up over what was told before as well.
-use Rattle.std.proofs.Common.{◌≡◌, ℕ, ◌<◌, sym, subst, ap, ◌∙◌, arith, length, length-set, get_or-set_same, get_or-set_other, Option, Some, None}
-use Rattle.std.specs.Prelude.{IfSome}
-use Rattle.std.specs.Option.{option_map}
-use Rattle.std.specs.List.{sum_by}
-use mathlib.Core.Logic.{dite}
-use native.Mathlib.Decide.{ℕ_discrete}
-use Rattle.sum_tree.specs.Tree.{children}
-use Rattle.sum_tree.specs.Told.{SumTold, uncounted, rank_of, count_of, word_of, children_in, words_below, told_raised, raised_by}
-use Rattle.sum_tree.specs.Shown.{SumShown, Agrees}
-use Rattle.sum_tree.specs.declared.ranks.RankSum.{RankSum}
-use Rattle.circle_run.specs.Turns.{AddsUp}
+use Rattle.circle_run.proofs.Prelude.{◌≡◌, ℕ, ◌<◌, sym, subst, ap, ◌∙◌, arith, length, length-set, get_or-set_same, get_or-set_other, Option, Some, None}
+use Rattle.circle_run.proofs.Prelude.{IfSome, option_map, sum_by, dite, ℕ_discrete, children, SumTold, uncounted, count_of, word_of, children_in, words_below}
+use Rattle.circle_run.proofs.Prelude.{told_raised, raised_by, SumShown, Agrees, RankSum, AddsUp}
+use Rattle.sum_tree.specs.Told.{rank_of}
 use Rattle.circle_run.proofs.Maps.{sum_same}
 
 -- a count that rises changes no word

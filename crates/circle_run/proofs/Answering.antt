@@ -1,25 +1,10 @@
 -- Answers to requests, one after the other.
-use Rattle.std.proofs.Common.{◌≡◌, ◌≢◌, ℕ, ◌+◌, ◌<◌, sym, ap, ◌∙◌, arith, Bool, true, false, nat_lt, List, [], ◌++◌, length, length-append, set, length-set}
-use Rattle.std.proofs.Common.{ne_eqb, Option, None}
-use Rattle.std.specs.Prelude.{if◌then◌else◌}
-use Rattle.ring_core.specs.declared.states.Colour.{Colour}
-use Rattle.ring_core.specs.declared.states.Colour.TheVariants.{Black}
-use Rattle.ring_core.specs.declared.events.Event.{Event}
-use Rattle.post_board.specs.Shown.{Strings, Shown, with_given}
-use Rattle.post_board.specs.Told.{Told}
-use Rattle.post_board.specs.Deeds.{give, refuse}
-use Rattle.post_board.specs.Calls.{given, served}
-use Rattle.circle_run.specs.Balance.{Log}
-use Rattle.circle_run.specs.Moves.{answer_of}
-use Rattle.circle_run.specs.Books.{counted}
-use Rattle.circle_run.specs.Private.Books.{Writes}
-use Rattle.circle_run.specs.Private.Services.{Awaits, ServesOn}
-use Rattle.circle_run.specs.Ranks.{Knows}
-use Rattle.circle_run.specs.declared.books.Book.{Book}
-use Rattle.circle_run.specs.declared.ranks.Rank.{Rank}
+use Rattle.circle_run.proofs.Prelude.{◌≡◌, ◌≢◌, ℕ, ◌+◌, ◌<◌, sym, ap, ◌∙◌, arith, Bool, true, false, nat_lt, List, [], ◌++◌, length, length-append, set}
+use Rattle.circle_run.proofs.Prelude.{length-set, ne_eqb, Option, None, if◌then◌else◌, Colour, Black, Event, Strings, Shown, with_given, Told, give, refuse}
+use Rattle.circle_run.proofs.Prelude.{given, Log, answer_of, counted, Writes, Awaits, ServesOn, Knows, Book, Rank, false_from_ne_true}
+use Rattle.post_board.specs.Calls.{served}
 use Rattle.circle_run.proofs.Asked.{true_not_false}
 use Rattle.circle_run.proofs.Known.{knows_seen, knows_served}
-use Rattle.std.proofs.lemmas.Bool.{false_from_ne_true}
 
 pub answer_gives : (to : ℕ) (batch : Strings) → 0 < length batch → answer_of (to, batch) ≡ give to batch
 answer_gives to batch some = ap (λ (b : Bool). if b then refuse to else give to batch) (ne_eqb (length batch) 0 (λ e. absurd (omega (arith, e, some))))

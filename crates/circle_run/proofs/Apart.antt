@@ -1,25 +1,11 @@
 -- What a rank's own moves do to the strings of its queue, its log and its seat's batches, whatever a string weighs.
-use Rattle.std.proofs.Common.{◌≡◌, ℕ, zero, suc, ◌+◌, ◌<◌, Bool, cond, List, [], ◌∷◌, ◌++◌, map, length, length-set, replicate, get_or, refl, sym}
-use Rattle.std.proofs.Common.{subst, ap, ◌∙◌, arith, Option, Some, None, All, eq-eqb, ne_eqb, append-nil, append_assoc}
-use Rattle.std.specs.List.{sum_by, flat_map}
-use Rattle.std.proofs.lemmas.List.{nil_from_length, length-replicate}
-use Rattle.std.proofs.lemmas.List.Concat.{flat_map-append}
-use Rattle.std.proofs.lemmas.List.Sums.{sum_by-cons, sum_by-append, sum_by_push, sum_by-set}
-use Rattle.std.proofs.lemmas.List.Elements.{All-tail}
-use mathlib.Core.Logic.{dite}
-use native.Mathlib.Decide.{ℕ_discrete}
-use Rattle.rank_queue.specs.Shares.{generator_of}
-use Rattle.post_board.specs.Shown.{Strings, Batches, more, with_taken}
-use Rattle.post_board.specs.Deeds.{Deed, ask, give, refuse, take, take_none, pass, restart, conclude, see_over}
+use Rattle.circle_run.proofs.Prelude.{◌≡◌, ℕ, zero, suc, ◌+◌, ◌<◌, Bool, cond, List, [], ◌∷◌, ◌++◌, map, length, length-set, replicate, get_or, refl, sym}
+use Rattle.circle_run.proofs.Prelude.{subst, ap, ◌∙◌, arith, Option, Some, None, All, eq-eqb, ne_eqb, append-nil, append_assoc, sum_by, flat_map}
+use Rattle.circle_run.proofs.Prelude.{nil_from_length, length-replicate, flat_map-append, sum_by-cons, sum_by-append, sum_by_push, sum_by-set, All-tail, dite}
+use Rattle.circle_run.proofs.Prelude.{ℕ_discrete, generator_of, Strings, Batches, more, with_taken, Deed, ask, give, refuse, take, take_none, pass, restart}
+use Rattle.circle_run.proofs.Prelude.{conclude, see_over, Log, Move, handled, served, did, noted, Side, answer_of, batches_after, batches_after_all, Does}
+use Rattle.circle_run.proofs.Prelude.{DoesAll, dealt_to, handled_in, given_in, taken_in, Options, RankRan, AllRan, unused}
 use Rattle.circle_run.specs.Balance as balance
-use Rattle.circle_run.specs.Balance.{Log}
-use Rattle.circle_run.specs.Moves.{Move, handled, served, did, noted, Side, answer_of, batches_after, batches_after_all, Does}
-use Rattle.circle_run.specs.Ranks.{DoesAll}
-use Rattle.circle_run.specs.Stages.{dealt_to}
-use Rattle.circle_run.specs.Shares.{handled_in, given_in, taken_in}
-use Rattle.circle_run.specs.declared.settings.Options.{Options}
-use Rattle.circle_run.specs.Apart.{RankRan, AllRan}
-use Rattle.post_board.specs.BoardSeats.{unused}
 use Rattle.circle_run.proofs.Upto.{upto, upto_same, upto_add, upto_swap, upto_long, dealt_all, flat_weighs}
 
 abbrev Weight : Type 0

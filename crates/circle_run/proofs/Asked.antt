@@ -1,20 +1,12 @@
 -- Who asks a rank, and who is being served.
-use Rattle.std.proofs.Common.{◌≡◌, ◌≢◌, ℕ, zero, suc, ◌+◌, ◌-◌, ◌<◌, ◌≤◌, ◌&&◌, ◌==◌, not, refl, sym, subst, ap, ◌∙◌, arith, Bool, true, false, List}
-use Rattle.std.proofs.Common.{[], ◌∷◌, ◌++◌, filter, length, append-nil, length-set, set, get_or, get_or-set_same, get_or-set_other, eq-eqb, ne_eqb}
-use Rattle.std.proofs.Common.{Option, Some, None}
-use Rattle.std.specs.List.{range_with_len}
-use Rattle.std.proofs.lemmas.List.Elements.{filter-append}
-use Rattle.std.proofs.lemmas.Bool.{eqb-true, false_from_ne_true}
-use Rattle.std.proofs.Math.ListN.{get_or-eq_default}
-use mathlib.Core.Logic.{dite}
-use native.Mathlib.Decide.{ℕ_discrete, dec_le}
-use Rattle.post_board.specs.Shown.{Strings, Shown, is_served}
-use Rattle.post_board.specs.Told.{Mail, vacant, asked, full, empty, Place, Told, no_place, place, is_full}
-use Rattle.post_board.specs.Deeds.{give, refuse, told_after, blackened, Tells, Stays}
-use Rattle.post_board.specs.Calls.{given, served, NoneAsks, LookedFor, AgreesIfTold}
-use Rattle.circle_run.specs.Moves.{asks, askers, NobodyAsks, AreAskers}
-use Rattle.circle_run.specs.Private.Services.{unserved, AsksOf, Awaits, is_asker, askers_below, InOrder, InOrderIfTold}
-use Rattle.ring_core.proofs.Dealing.{range_more}
+use Rattle.circle_run.proofs.Prelude.{◌≡◌, ◌≢◌, ℕ, zero, suc, ◌+◌, ◌-◌, ◌<◌, ◌≤◌, ◌&&◌, ◌==◌, refl, sym, subst, ap, ◌∙◌, arith, Bool, true, false, List, []}
+use Rattle.circle_run.proofs.Prelude.{◌∷◌, ◌++◌, length, append-nil, length-set, set, get_or, get_or-set_same, get_or-set_other, eq-eqb, ne_eqb, Option, Some}
+use Rattle.circle_run.proofs.Prelude.{None, range_with_len, filter-append, eqb-true, false_from_ne_true, get_or-eq_default, dite, ℕ_discrete, dec_le, Strings}
+use Rattle.circle_run.proofs.Prelude.{Shown, is_served, Mail, vacant, asked, full, empty, Place, Told, no_place, place, is_full, give, refuse, told_after}
+use Rattle.circle_run.proofs.Prelude.{blackened, Tells, Stays, given, NoneAsks, LookedFor, AgreesIfTold, asks, askers, NobodyAsks, AreAskers, unserved, AsksOf}
+use Rattle.circle_run.proofs.Prelude.{Awaits, is_asker, askers_below, InOrder, InOrderIfTold, range_more}
+use Rattle.std.proofs.Common.{not, filter}
+use Rattle.post_board.specs.Calls.{served}
 
 pub true_not_false : (b : Bool) → b ≡ true → b ≡ false → ⊥
 true_not_false b e f = (let x : true ≡ false = sym e ∙ f in cc)

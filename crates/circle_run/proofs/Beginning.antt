@@ -1,20 +1,9 @@
 -- The ranks of a run as they begin: they are ready, and their stage is that of the deal.
-use Rattle.std.proofs.Common.{◌≡◌, ℕ, ◌<◌, ◌≤◌, refl, sym, subst, ap, ◌∙◌, arith, true, List, [], map, length, get_or, Option, None}
-use Rattle.std.proofs.lemmas.List.{length-map, get_or-map}
-use Rattle.std.proofs.lemmas.List.FromFn.{get_or-map-range_with_len}
-use Rattle.std.specs.List.{range_with_len}
-use Rattle.rand_pcg.specs.Lcg.{Lcg}
-use Rattle.post_board.specs.Shown.{Strings, Shown}
-use Rattle.post_board.specs.Told.{Told}
-use Rattle.post_board.specs.Fresh.{fresh_told, AllFresh}
-use Rattle.sum_tree.specs.Shown.{SumShown}
+use Rattle.circle_run.proofs.Prelude.{◌≡◌, ℕ, ◌<◌, ◌≤◌, refl, sym, subst, ap, ◌∙◌, arith, true, List, [], map, length, get_or, Option, None, length-map}
+use Rattle.circle_run.proofs.Prelude.{get_or-map, get_or-map-range_with_len, range_with_len, Lcg, Strings, Shown, Told, fresh_told, AllFresh, SumShown, Log}
+use Rattle.circle_run.proofs.Prelude.{RankSide, dealt_to, begun, IsAscending, NoneWrote, AreAll, AllReady, stage_of, AreNew, Options, Rank}
+use Rattle.circle_run.specs.Hosts.{rank_of}
 use Rattle.sum_tree.specs.Plain.{fresh as fresh_sums}
-use Rattle.circle_run.specs.Balance.{Log}
-use Rattle.circle_run.specs.Stages.{RankSide, dealt_to, begun}
-use Rattle.circle_run.specs.Hosts.{IsAscending, NoneWrote, AreAll, AllReady, rank_of, stage_of}
-use Rattle.circle_run.specs.Private.Outcomes.{AreNew}
-use Rattle.circle_run.specs.declared.settings.Options.{Options}
-use Rattle.circle_run.specs.declared.ranks.Rank.{Rank}
 use Rattle.circle_run.proofs.Asked.{true_not_false}
 use Rattle.circle_run.proofs.Begun.{new_side}
 use Rattle.circle_run.proofs.New.{ready_at_first}

@@ -1,11 +1,6 @@
 -- What a run begins with.
-use Rattle.std.proofs.Common.{◌≡◌, ℕ, ◌<◌, arith, [], length}
-use Rattle.std.proofs.lemmas.List.{length-replicate}
-use Rattle.std.proofs.lemmas.List.FromFn.{length-map-range_with_len, get_or-map-range_with_len}
-use Rattle.rank_queue.specs.Shares.{generator_of}
-use Rattle.post_board.specs.Shown.{Strings}
-use Rattle.circle_run.specs.Stages.{RankSide, no_side, rank_side, dealt_to, new_place, begun}
-use Rattle.circle_run.specs.declared.settings.Options.{Options}
+use Rattle.circle_run.proofs.Prelude.{◌≡◌, ℕ, ◌<◌, arith, [], length, length-replicate, length-map-range_with_len, get_or-map-range_with_len, generator_of}
+use Rattle.circle_run.proofs.Prelude.{Strings, RankSide, no_side, rank_side, dealt_to, new_place, begun, Options}
 
 abbrev pub new_side : Options → Strings → ℕ → RankSide
 new_side o starts r = record { queue = dealt_to o.ranks starts r; log = []; draws = generator_of o.seed r }

@@ -1,21 +1,10 @@
 -- A rank handles no more than its number of strings, and counts them.
-use Rattle.std.proofs.Common.{◌≡◌, ℕ, ◌+◌, ◌-◌, ◌^◌, ◌<◌, ◌≤◌, ◌⊎◌, min, refl, sym, subst, ap, ◌∙◌, arith, Bool, true, false, List, [], ◌∷◌, map}
-use Rattle.std.proofs.Common.{length, length-append, Option, Some, None}
-use Rattle.std.specs.Prelude.{IfSome, if◌then◌else◌}
-use Rattle.std.specs.List.{flat_map}
-use Rattle.std.proofs.lemmas.Bool.{leb-true, leb-false}
-use Rattle.post_board.specs.Shown.{Strings, Shown}
-use Rattle.post_board.specs.Told.{Told}
-use Rattle.post_board.specs.Deeds.{Deed, ask, give, refuse, take, take_none, pass, restart, conclude, see_over, event_of, withdraw, halt, stop}
-use Rattle.circle_run.specs.Balance.{Log}
-use Rattle.circle_run.specs.Moves.{Move, handled, served, did, noted, Side, answer_of, events_of, MayHandle, Does}
-use Rattle.circle_run.specs.Books.{counted, counted_one}
-use Rattle.circle_run.specs.Choices.{is_due}
-use Rattle.circle_run.specs.Ranks.{DoesAll, side, Went}
-use Rattle.circle_run.specs.Ready.{Bounded}
-use Rattle.circle_run.specs.declared.outcomes.Share.{Share}
-use Rattle.circle_run.specs.declared.settings.Options.{Options}
-use Rattle.circle_run.specs.declared.ranks.Rank.{Rank}
+use Rattle.circle_run.proofs.Prelude.{◌≡◌, ℕ, ◌+◌, ◌-◌, ◌^◌, ◌<◌, ◌≤◌, ◌⊎◌, min, refl, sym, subst, ap, ◌∙◌, arith, Bool, true, false, List, [], ◌∷◌, map}
+use Rattle.circle_run.proofs.Prelude.{length, length-append, Option, Some, None, IfSome, if◌then◌else◌, flat_map, leb-true, leb-false, Strings, Shown, Told}
+use Rattle.circle_run.proofs.Prelude.{Deed, ask, give, refuse, take, take_none, pass, restart, conclude, see_over, event_of, withdraw, halt, stop, Log, Move}
+use Rattle.circle_run.proofs.Prelude.{handled, served, did, noted, Side, answer_of, events_of, MayHandle, Does, counted, counted_one, is_due, DoesAll, Went}
+use Rattle.circle_run.proofs.Prelude.{Bounded, Share, Options, Rank}
+use Rattle.circle_run.specs.Ranks.{side}
 use Rattle.circle_run.proofs.Asked.{true_not_false}
 use Rattle.circle_run.proofs.Stepped.{counted_then}
 

@@ -1,15 +1,9 @@
 -- A step of a rank that is one call of its board.
-use Rattle.std.proofs.Common.{◌≡◌, ◌≢◌, ℕ, refl, subst, ap, ◌∙◌, arith, Bool, true, false, List, [], ◌∷◌, length, Option, None}
-use Rattle.std.specs.Prelude.{slice_index_or}
-use Rattle.post_board.specs.Shown.{Strings, Batches, Shown}
-use Rattle.post_board.specs.Told.{Told}
-use Rattle.post_board.specs.Deeds.{Deed, ask, give, refuse, take, take_none, pass, restart, conclude, see_over, event_of, Tells, Late, TellsLate}
-use Rattle.circle_run.specs.Balance.{Log}
-use Rattle.circle_run.specs.Moves.{Move, did, noted, noted_of, Queues, NamesRank, Draws, batches_after, DoesDeed, MayNote}
-use Rattle.circle_run.specs.Private.Books.{Writes}
-use Rattle.circle_run.specs.Private.Steps.{Came}
-use Rattle.circle_run.specs.Ranks.{Knows, ServesNone, Went, side}
-use Rattle.circle_run.specs.declared.ranks.Rank.{Rank}
+use Rattle.circle_run.proofs.Prelude.{◌≡◌, ◌≢◌, ℕ, refl, subst, ap, ◌∙◌, arith, Bool, true, false, List, [], ◌∷◌, length, Option, None, slice_index_or, Strings}
+use Rattle.circle_run.proofs.Prelude.{Batches, Shown, Told, Deed, ask, give, refuse, take, take_none, pass, restart, conclude, see_over, event_of, Tells, Late}
+use Rattle.circle_run.proofs.Prelude.{TellsLate, Log, Move, did, noted, noted_of, Queues, NamesRank, Draws, batches_after, DoesDeed, MayNote, Writes, Came}
+use Rattle.circle_run.proofs.Prelude.{Knows, ServesNone, Went, Rank}
+use Rattle.circle_run.specs.Ranks.{side}
 use Rattle.circle_run.proofs.Stepped.{went_did, went_silent}
 
 -- a rank without a string does this, and gets none by it

@@ -1,28 +1,14 @@
 -- The moves of a turn are a service and then the first that applies.
-use Rattle.std.proofs.Common.{◌≡◌, ◌≢◌, ℕ, ◌-◌, ◌<◌, refl, sym, subst, inl, inr, ap, ◌∙◌, arith, Bool, true, false, List, [], ◌∷◌}
-use Rattle.std.proofs.Common.{◌++◌, ◌&&◌, length, append_assoc, append-nil, All, Option, None}
-use Rattle.std.specs.List.{flat_map}
-use Rattle.post_board.specs.Shown.{Strings, Shown}
-use Rattle.post_board.specs.Told.{Told}
-use Rattle.post_board.specs.declared.answers.Ring.{Ring}
-use Rattle.post_board.specs.declared.answers.Ring.TheVariants.{Elsewhere, Here, Over as HeardOver, Halted as HeardHalted}
-use Rattle.circle_run.specs.Balance.{Log}
-use Rattle.circle_run.specs.Moves.{Move, handled, served, did, noted, Side}
-use Rattle.circle_run.specs.Ranks.{DoesAll, side}
-use Rattle.circle_run.specs.Private.Steps.{Came}
-use Rattle.circle_run.specs.Turns.{IsAct, Worked, IsTurn}
-use Rattle.circle_run.specs.Private.Steps.{Heard, Served, Acts, Halts, halts_by, Ends, WoundUp, with_service, turn_of}
-use Rattle.circle_run.specs.Choices.{Standing, Choice, to_handle, to_look, to_move, to_ask, halts_after, halt_if, choice, Chosen}
-use Rattle.circle_run.specs.Choices.{IsRing, held_after, heard_after}
-use Rattle.circle_run.specs.Choices.{standing, Chooses, tells_first, Closes, has_done_all, is_to_halt}
-use Rattle.circle_run.specs.Private.Steps.{Follows, Works}
-use Rattle.circle_run.specs.declared.steps.Did.{Did}
-use Rattle.circle_run.specs.declared.steps.Did.TheVariants.{Handled, Acted, Waited, Stopped}
-use Rattle.circle_run.specs.declared.settings.Options.{Options}
-use Rattle.circle_run.specs.declared.ranks.Rank.{Rank}
+use Rattle.circle_run.proofs.Prelude.{◌≡◌, ◌≢◌, ℕ, ◌-◌, ◌<◌, refl, sym, subst, inl, inr, ap, ◌∙◌, arith, Bool, true, false, List, [], ◌∷◌, ◌++◌, ◌&&◌, length}
+use Rattle.circle_run.proofs.Prelude.{append_assoc, append-nil, All, Option, None, flat_map, Strings, Shown, Told, Ring, Elsewhere, Here, Log, Move, handled}
+use Rattle.circle_run.proofs.Prelude.{served, did, noted, Side, DoesAll, Came, IsAct, Worked, IsTurn, Heard, Served, Acts, Halts, halts_by, Ends, WoundUp}
+use Rattle.circle_run.proofs.Prelude.{with_service, turn_of, Standing, Choice, to_handle, to_look, to_move, to_ask, halts_after, halt_if, choice, Chosen}
+use Rattle.circle_run.proofs.Prelude.{IsRing, held_after, heard_after, standing, Chooses, tells_first, Closes, has_done_all, is_to_halt, Follows, Works, Did}
+use Rattle.circle_run.proofs.Prelude.{Handled, Acted, Waited, Stopped, Options, Rank, false_from_ne_true}
+use Rattle.circle_run.specs.Ranks.{side}
+use Rattle.post_board.specs.declared.answers.Ring.TheVariants.{Over as HeardOver, Halted as HeardHalted}
 use Rattle.circle_run.proofs.Asked.{true_not_false}
 use Rattle.circle_run.proofs.Stepped.{came_then, came_as, came_settled}
-use Rattle.std.proofs.lemmas.Bool.{false_from_ne_true}
 
 -- which choice comes first
 choice_busy : (n : ℕ) (queue : Strings) (asked : Option ℕ) (tried : Bool) (ring : Ring) → 0 < length queue

@@ -1,7 +1,5 @@
 -- The parts of a rank, of which the lists of a run are made.
-use Rattle.post_board.specs.Shown.{Strings}
-use Rattle.circle_run.specs.declared.outcomes.Share.{Share}
-use Rattle.circle_run.specs.declared.ranks.Rank.{Rank}
+use Rattle.circle_run.proofs.Prelude.{Strings, Share, Rank}
 
 module _ {J S T : Type 0} where
   abbrev pub job_of : Rank J S T → J

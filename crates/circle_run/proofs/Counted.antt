@@ -1,11 +1,8 @@
 -- Counts say as much as weights.
-use Rattle.std.proofs.Common.{◌≡◌, ℕ, ◌+◌, ◌<◌, true, false, cond, List, [], ◌∷◌, ◌++◌, refl, sym, ap, ◌∙◌, arith}
-use Rattle.std.specs.Prelude.{nat_eq}
-use Rattle.std.specs.List.{sum_by}
-use Rattle.std.specs.Cmp.Lexicographic.{pointwise, nat_list_eq_equiv, same_text}
-use Rattle.std.proofs.lemmas.List.Sums.{sum_by-append, sum_by-cons}
-use Rattle.circle_run.specs.Balance.{Log, handled, pushed}
-use Rattle.circle_run.specs.AsOften.{times, handled_strings, pushed_strings, BalanceIsAsOften}
+use Rattle.circle_run.proofs.Prelude.{◌≡◌, ℕ, ◌+◌, ◌<◌, true, false, cond, List, [], ◌∷◌, ◌++◌, refl, sym, ap, ◌∙◌, arith, nat_eq, sum_by, pointwise}
+use Rattle.circle_run.proofs.Prelude.{nat_list_eq_equiv, same_text, sum_by-append, sum_by-cons, Log, pushed, times, handled_strings, pushed_strings}
+use Rattle.circle_run.proofs.Prelude.{BalanceIsAsOften}
+use Rattle.circle_run.specs.Balance.{handled}
 
 -- the weight that counts a string
 abbrev one : List ℕ → List ℕ → ℕ

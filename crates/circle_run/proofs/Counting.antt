@@ -1,24 +1,10 @@
 -- What a rank counts is what the events of the run tell of it.
-use Rattle.std.proofs.Common.{◌≡◌, ℕ, ◌+◌, ◌-◌, ◌^◌, ◌==◌, ◌≢◌, min, refl, sym, subst, ap, ◌∙◌, arith, Bool, true, false, cond, List, [], ◌∷◌, ◌++◌}
-use Rattle.std.proofs.Common.{map, length, length-append, set, count_by, eq-eqb, ne_eqb}
-use Rattle.std.proofs.lemmas.List.Sums.{sum_by-cons, sum_by-append}
-use Rattle.std.specs.List.{flat_map, sum_by}
-use mathlib.Core.Logic.{dite}
-use native.Mathlib.Decide.{ℕ_discrete}
-use Rattle.ring_core.specs.declared.events.Event.{Event}
-use Rattle.ring_core.specs.declared.events.Event.TheVariants.{Handle, Give, Take}
-use Rattle.post_board.specs.Shown.{Strings}
-use Rattle.post_board.specs.Deeds.{Deed, give, take, event_of, withdraw, halt, stop}
-use Rattle.circle_run.specs.Moves.{Move, handled, served, did, noted, Side, answer_of, events_of, Does}
-use Rattle.circle_run.specs.Ranks.{DoesAll}
-use Rattle.circle_run.specs.Stages.{Stage, rank_side, side, Plays, events_of_all}
-use Rattle.circle_run.specs.Shares.{handled_in, given_in, taken_in, moves_of, handled_by, given_by, taken_by}
-use Rattle.circle_run.specs.Books.{counted, counted_one}
-use Rattle.circle_run.specs.Fair.{actor, handles}
-use Rattle.circle_run.specs.Hosts.{events_by}
-use Rattle.circle_run.specs.Traced.{given_at, taken_at, share_in}
-use Rattle.circle_run.specs.declared.outcomes.Share.{Share}
-use Rattle.circle_run.specs.declared.settings.Options.{Options}
+use Rattle.circle_run.proofs.Prelude.{◌≡◌, ℕ, ◌+◌, ◌-◌, ◌^◌, ◌==◌, ◌≢◌, min, refl, sym, subst, ap, ◌∙◌, arith, Bool, true, false, cond, List, [], ◌∷◌, ◌++◌}
+use Rattle.circle_run.proofs.Prelude.{map, length, length-append, set, count_by, eq-eqb, ne_eqb, sum_by-cons, sum_by-append, flat_map, sum_by, dite, ℕ_discrete}
+use Rattle.circle_run.proofs.Prelude.{Event, Handle, Give, Take, Strings, Deed, give, take, event_of, withdraw, halt, stop, Move, handled, served, did, noted}
+use Rattle.circle_run.proofs.Prelude.{Side, answer_of, events_of, Does, DoesAll, Stage, rank_side, side, Plays, events_of_all, handled_in, given_in, taken_in}
+use Rattle.circle_run.proofs.Prelude.{moves_of, handled_by, given_by, taken_by, counted, counted_one, actor, handles, events_by, given_at, taken_at, share_in}
+use Rattle.circle_run.proofs.Prelude.{Share, Options}
 use Rattle.circle_run.proofs.Actors.{By, move_by}
 use Rattle.circle_run.proofs.Answering.{answer_gives}
 

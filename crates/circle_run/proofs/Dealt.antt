@@ -1,14 +1,8 @@
 -- The starts are dealt in turn.
-use Rattle.std.proofs.Common.{◌≡◌, ℕ, suc, ◌+◌, ◌*◌, ◌/◌, ◌%◌, ◌==◌, ◌<◌, sym, ap, ◌∙◌, arith, Bool, cond, List, [], ◌∷◌, ◌++◌, map, length}
-use Rattle.std.proofs.Common.{length-set, replicate, set, get_or, get_or-set_same, get_or-set_other, append_assoc, append-nil, eq-eqb, ne_eqb}
-use Rattle.std.proofs.Math.Nat.{mul-add-mod_self_left, div-add-mod}
-use Rattle.std.proofs.lemmas.List.{length-replicate, get_or-replicate}
-use Rattle.std.proofs.lemmas.List.FromFn.{length-map-range_with_len, get_or-map-range_with_len, fill_by_all}
-use Rattle.std.specs.List.{range_with_len}
-use mathlib.Core.Logic.{dite}
-use native.Mathlib.Decide.{ℕ_discrete}
-use Rattle.post_board.specs.Shown.{Strings}
-use Rattle.circle_run.specs.Stages.{dealt_from, dealt_to}
+use Rattle.circle_run.proofs.Prelude.{◌≡◌, ℕ, suc, ◌+◌, ◌*◌, ◌/◌, ◌%◌, ◌==◌, ◌<◌, sym, ap, ◌∙◌, arith, Bool, cond, List, [], ◌∷◌, ◌++◌, map, length, length-set}
+use Rattle.circle_run.proofs.Prelude.{replicate, set, get_or, get_or-set_same, get_or-set_other, append_assoc, append-nil, eq-eqb, ne_eqb}
+use Rattle.circle_run.proofs.Prelude.{mul-add-mod_self_left, div-add-mod, length-replicate, get_or-replicate, length-map-range_with_len}
+use Rattle.circle_run.proofs.Prelude.{get_or-map-range_with_len, fill_by_all, range_with_len, dite, ℕ_discrete, Strings, dealt_from, dealt_to}
 
 pub turn_more : (n k : ℕ) → (k % n + 1) % n ≡ (k + 1) % n
 turn_more n k =

@@ -1,27 +1,13 @@
 -- A deed that is legal in what is told is a legal event of the world, and leaves the world of what is told afterwards.
-use Rattle.std.proofs.Common.{◌≡◌, ℕ, ◌+◌, ◌-◌, ◌<◌, ◌^◌, ◌≢◌, ◌⊎◌, inl, inr, ⊎_elim, refl, sym, subst, ap, ◌∙◌, arith, Bool, true, false, ◌==◌}
-use Rattle.std.proofs.Common.{◌||◌, ◌&&◌, List, [], ◌∷◌, ◌++◌, length, set, get_or-set_same, get_or-set_other, length-set, length-append, eq-eqb}
-use Rattle.std.proofs.Common.{Some, None}
-use Rattle.std.proofs.lemmas.List.{set-get_or}
-use mathlib.Core.Logic.{dite}
-use native.Mathlib.Decide.{ℕ_discrete}
-use Rattle.std.proofs.lemmas.Bool.Decides.{nat_tests}
-use Rattle.ring_core.specs.declared.states.Colour.{Colour}
-use Rattle.ring_core.specs.declared.states.Colour.TheVariants.{White, Black}
-use Rattle.ring_core.specs.declared.states.Desk.TheVariants.{Rest, Asked, Full, Empty}
-use Rattle.ring_core.specs.declared.states.Token.{Token}
-use Rattle.ring_core.specs.declared.states.Token.TheVariants.{At, Over}
-use Rattle.ring_core.specs.declared.states.RankState.{RankState}
-use Rattle.ring_core.specs.declared.events.Event.TheVariants.{Handle, Ask, Give, Refuse, Take, TakeNone, Pass, Restart, Conclude, SeeOver}
-use Rattle.ring_core.specs.World.{fresh, rank_of, is_black, darker, is_over}
-use Rattle.ring_core.specs.Step.{is_rest, asks, holds, is_refused_by, is_at, is_token_black, differs, after_giving, refusal, ranks_after, token_after}
-use Rattle.ring_core.specs.Picture.{put}
-use Rattle.ring_core.proofs.PictureLemmas.{put_here, put_elsewhere, put_all}
-use Rattle.post_board.specs.Shown.{Strings}
-use Rattle.post_board.specs.Told.{Mail, vacant, asked, full, empty, Place, Told, no_place, place, put_place}
-use Rattle.post_board.specs.Deeds.{Deed, ask, give, refuse, take, take_none, pass, restart, conclude, see_over, Legal, told_after, event_of, blackened}
-use Rattle.circle_run.specs.Worlds.{desk_of, state_of}
-use Rattle.circle_run.specs.Moves.{Queues}
+use Rattle.circle_run.proofs.Prelude.{◌≡◌, ℕ, ◌+◌, ◌-◌, ◌<◌, ◌^◌, ◌≢◌, ◌⊎◌, inl, inr, ⊎_elim, refl, sym, subst, ap, ◌∙◌, arith, Bool, true, false, ◌==◌, ◌||◌}
+use Rattle.circle_run.proofs.Prelude.{◌&&◌, List, [], ◌∷◌, ◌++◌, length, set, get_or-set_same, get_or-set_other, length-set, length-append, eq-eqb, Some, None}
+use Rattle.circle_run.proofs.Prelude.{set-get_or, dite, ℕ_discrete, nat_tests, Colour, White, Black, Rest, Asked, Full, Empty, Token, At, Over, RankState}
+use Rattle.circle_run.proofs.Prelude.{Handle, Ask, Give, Refuse, Take, TakeNone, Pass, Restart, Conclude, SeeOver, fresh, rank_of, is_black, darker, is_over}
+use Rattle.circle_run.proofs.Prelude.{is_rest, holds, is_refused_by, is_at, is_token_black, differs, after_giving, refusal, ranks_after, token_after, put}
+use Rattle.circle_run.proofs.Prelude.{put_here, put_elsewhere, put_all, Strings, Mail, vacant, asked, full, empty, Place, Told, no_place, place, put_place}
+use Rattle.circle_run.proofs.Prelude.{Deed, ask, give, refuse, take, take_none, pass, restart, conclude, see_over, Legal, told_after, event_of, blackened}
+use Rattle.circle_run.proofs.Prelude.{desk_of, state_of, Queues}
+use Rattle.ring_core.specs.Step.{asks}
 
 -- legal events, by what they ask for
 ask_legal : (ranks : List RankState) (token : Token) (rank victim : ℕ) → rank < length ranks → victim < length ranks → rank ≢ victim

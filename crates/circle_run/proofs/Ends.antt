@@ -1,20 +1,9 @@
 -- Where a rank has seen the end, nothing waits.
-use Rattle.std.proofs.Common.{◌≡◌, ℕ, ◌<◌, ⊎_elim, refl, sym, subst, ap, ◌∙◌, arith, true, false, IsTrue, List, [], ◌∷◌, length, None}
-use Rattle.std.proofs.lemmas.Bool.{cases_lt}
-use Rattle.std.proofs.lemmas.List.{nil_from_length, get_or_past}
-use Rattle.std.proofs.lemmas.List.Sums.{get_or-le-sum_by}
-use Rattle.ring_core.specs.declared.states.RankState.{RankState}
-use Rattle.ring_core.specs.declared.events.Event.{Event}
-use Rattle.ring_core.specs.World.{Seen, fresh, rank_of, started, held, queued_in, on_way_in}
-use Rattle.ring_core.specs.Step.{refused, after}
-use Rattle.ring_core.specs.Run.{after_all, IsRun, HoldsSome, NoEmptyBatch}
-use Rattle.post_board.specs.Shown.{Strings}
-use Rattle.post_board.specs.Told.{Mail, vacant, asked, full, empty, Place, no_place, place, is_full}
-use Rattle.circle_run.specs.Moves.{Move}
-use Rattle.circle_run.specs.Stages.{RankSide, Stage, no_side, rank_side, Plays, events_of_all, begun}
-use Rattle.circle_run.specs.Worlds.{desk_of}
-use Rattle.circle_run.specs.Waiting.{NothingWaits}
-use Rattle.circle_run.specs.declared.settings.Options.{Options}
+use Rattle.circle_run.proofs.Prelude.{◌≡◌, ℕ, ◌<◌, ⊎_elim, refl, sym, subst, ap, ◌∙◌, arith, true, false, IsTrue, List, [], ◌∷◌, length, None, cases_lt}
+use Rattle.circle_run.proofs.Prelude.{nil_from_length, get_or_past, get_or-le-sum_by, RankState, Event, Seen, fresh, rank_of, started, held, queued_in}
+use Rattle.circle_run.proofs.Prelude.{on_way_in, refused, after, after_all, IsRun, HoldsSome, NoEmptyBatch, Strings, Mail, vacant, asked, full, empty, Place}
+use Rattle.circle_run.proofs.Prelude.{no_place, place, is_full, Move, RankSide, Stage, no_side, rank_side, Plays, events_of_all, begun, desk_of, NothingWaits}
+use Rattle.circle_run.proofs.Prelude.{Options}
 use Rattle.circle_run.proofs.Deeds.{Shape}
 use Rattle.circle_run.proofs.Runs.{queues, FromStart, from_start}
 

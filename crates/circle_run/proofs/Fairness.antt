@@ -1,25 +1,10 @@
 -- Turns in rounds are fair.
-use Rattle.std.proofs.Common.{◌≡◌, ℕ, suc, ◌+◌, ◌-◌, ◌%◌, ◌<◌, ◌≤◌, ◌≢◌, ◌⊎◌, inl, inr, ⊎_elim, refl, sym, subst, ap, ◌∙◌, arith, true, false, List}
-use Rattle.std.proofs.Common.{[], ◌∷◌, ◌++◌, length, set, eq-eqb, None}
-use Rattle.std.proofs.lemmas.List.Concat.{flat_map-append}
-use mathlib.Core.Logic.{dite}
-use native.Mathlib.Decide.{ℕ_discrete}
-use Rattle.ring_core.specs.declared.states.RankState.{RankState}
-use Rattle.ring_core.specs.declared.events.Event.{Event}
-use Rattle.ring_core.specs.declared.events.Event.TheVariants.{Handle, Ask, Give, Refuse, Take, TakeNone, Pass, Restart, Conclude, SeeOver}
-use Rattle.ring_core.specs.World.{Seen, started}
-use Rattle.ring_core.specs.Step.{after}
-use Rattle.ring_core.specs.Run.{after_all}
-use Rattle.post_board.specs.Shown.{Strings}
-use Rattle.post_board.specs.Told.{Mail, vacant, asked, full, empty, Told, place}
-use Rattle.post_board.specs.Deeds.{Late, halt}
-use Rattle.circle_run.specs.Moves.{Move, handled, served, did, noted, Side, events_of, Does}
-use Rattle.circle_run.specs.Stages.{RankSide, Stage, rank_side, side, Plays, events_of_all, begun}
-use Rattle.circle_run.specs.Worlds.{desk_of}
-use Rattle.circle_run.specs.Waiting.{NothingWaitsAtEnd}
-use Rattle.circle_run.specs.Fair.{handles, ComesBefore, is_asking, LetsOthers, IsFair, HandlesLast, moves_in, is_waiting, PlaysTurns}
-use Rattle.circle_run.specs.Fair.{moves_of_turns, TurnsArePlayed, RoundsAreFair}
-use Rattle.circle_run.specs.declared.settings.Options.{Options}
+use Rattle.circle_run.proofs.Prelude.{◌≡◌, ℕ, suc, ◌+◌, ◌-◌, ◌%◌, ◌<◌, ◌≤◌, ◌≢◌, ◌⊎◌, inl, inr, ⊎_elim, refl, sym, subst, ap, ◌∙◌, arith, true, false, List, []}
+use Rattle.circle_run.proofs.Prelude.{◌∷◌, ◌++◌, length, set, eq-eqb, None, flat_map-append, dite, ℕ_discrete, RankState, Event, Handle, Ask, Give, Refuse}
+use Rattle.circle_run.proofs.Prelude.{Take, TakeNone, Pass, Restart, Conclude, SeeOver, Seen, started, after, after_all, Strings, Mail, vacant, asked, full}
+use Rattle.circle_run.proofs.Prelude.{empty, Told, place, Late, halt, Move, handled, served, did, noted, Side, events_of, Does, RankSide, Stage, rank_side}
+use Rattle.circle_run.proofs.Prelude.{side, Plays, events_of_all, begun, desk_of, NothingWaitsAtEnd, handles, ComesBefore, is_asking, LetsOthers, IsFair}
+use Rattle.circle_run.proofs.Prelude.{HandlesLast, moves_in, is_waiting, PlaysTurns, moves_of_turns, TurnsArePlayed, RoundsAreFair, Options}
 use Rattle.circle_run.proofs.Stopping.{moves_halt, quiet, never_late}
 use Rattle.circle_run.proofs.Deeds.{some_is}
 use Rattle.circle_run.proofs.Actors.{By, turn_by, comes_later, comes_now, NoHandle, NoHandle-append, nil_or_some, never_again, answers_handle, deed_handles}

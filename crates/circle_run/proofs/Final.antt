@@ -1,17 +1,8 @@
 -- A run over several threads at its end.
-use Rattle.std.proofs.Common.{◌≡◌, ℕ, sym, ◌∙◌, arith, false, List, length, get_or, All}
-use Rattle.std.specs.List.{sum_by}
-use Rattle.std.specs.List.Sorted.{IsPermutation}
-use Rattle.std.proofs.lemmas.List.Sorted.{All-permutation, IsPermutation-sym, length_permutation}
-use Rattle.post_board.specs.Shown.{Shown, Strings}
-use Rattle.sum_tree.specs.Shown.{SumShown}
-use Rattle.circle_run.specs.Balance.{Log}
-use Rattle.circle_run.specs.Hosts.{IsAscending, NoneLost, AreAll, AllEnded, Alone}
-use Rattle.circle_run.specs.declared.settings.Options.{Options}
-use Rattle.circle_run.specs.declared.ranks.Rank.{Rank}
-use Rattle.circle_run.specs.Private.Away.{EndOf, AreDone}
+use Rattle.circle_run.proofs.Prelude.{◌≡◌, ℕ, sym, ◌∙◌, arith, false, List, length, get_or, All, sum_by, IsPermutation, All-permutation, IsPermutation-sym}
+use Rattle.circle_run.proofs.Prelude.{length_permutation, Shown, Strings, SumShown, Log, IsAscending, NoneLost, AreAll, AllEnded, Alone, Options, Rank, EndOf}
+use Rattle.circle_run.proofs.Prelude.{AreDone, Starting, Ending}
 use Rattle.circle_run.proofs.Places.{in_place, ones}
-use Rattle.circle_run.specs.Private.Parting.{Starting, Ending}
 
 module _ {J S T P Q D : Type 0} (log : J → Log) (plain : J → D) (shows : S → Shown) (seats : P → S → Type 0)
     (sums_shows : T → SumShown) (sums_seats : Q → T → Type 0) where

@@ -1,39 +1,16 @@
 -- What a whole run leaves.
-use Rattle.std.proofs.Common.{◌≡◌, ◌≢◌, ℕ, suc, ◌-◌, ◌^◌, ◌<◌, ◌≤◌, ◌⊎◌, inl, inr, ⊎_elim, rules, min, refl, sym, subst, ap, ◌∙◌, arith, Bool, true}
-use Rattle.std.proofs.Common.{false, cond, List, [], ◌∷◌, ◌++◌, append-nil, map, length, get_or, Option, Some, None, Vec}
-use Rattle.std.specs.Prelude.{IsSome}
-use Rattle.std.proofs.lemmas.List.{length-map, get_or-map, get_or_default}
-use Rattle.std.proofs.lemmas.Simd.{map-map}
-use Rattle.std.proofs.lemmas.List.Elements.{All-get_or}
-use Rattle.std.proofs.lemmas.List.Folds.{flat_map-map}
-use Rattle.std.proofs.lemmas.List.Sums.{sum-map}
-use Rattle.std.specs.List.{flat_map, range_with_len, sum_by}
-use Rattle.ring_core.specs.declared.events.Event.{Event}
-use Rattle.ring_core.specs.declared.states.Token.TheVariants.{Over}
-use Rattle.ring_core.specs.World.{started}
-use Rattle.post_board.specs.Shown.{Strings, Shown, is_served}
-use Rattle.post_board.specs.Told.{Told, place}
-use Rattle.post_board.specs.Deeds.{DeedsKeepSound, LateKeepsSound}
-use Rattle.post_board.specs.Fresh.{fresh_told}
-use Rattle.post_board.specs.Calls.{AgreesIfTold, ByNumber as SeatsByNumber, NoneOnTheWay}
-use Rattle.sum_tree.specs.Shown.{SumShown, ByNumber as SumsByNumber}
-use Rattle.circle_run.specs.Balance.{Log, Balanced}
-use Rattle.circle_run.specs.Left.{all_left}
-use Rattle.circle_run.specs.Moves.{Move}
-use Rattle.circle_run.specs.Stages.{RankSide, Stage, no_side, Plays, events_of_all, begun}
-use Rattle.circle_run.specs.Waiting.{NothingWaits, NothingWaitsAtEnd, all_logged, all_queued, all_mailed}
-use Rattle.circle_run.specs.Shares.{handled_by, given_by, taken_by}
-use Rattle.circle_run.specs.Fair.{PlaysTurns, moves_of_turns, RoundsAreFair, IsFair}
-use Rattle.circle_run.specs.Books.{counted}
-use Rattle.circle_run.specs.Progress.{KeptOf, KeptAll}
-use Rattle.circle_run.specs.Hosts.{events_by, NoneLost, AreAll, Same, AllEnded, rank_of, stage_of, Ran, KeptInOrder}
-use Rattle.circle_run.specs.ByRank.{Played}
-use Rattle.circle_run.specs.Traced.{IsTraced, share_in, IsProgress}
-use Rattle.circle_run.specs.Private.Outcomes.{IsOutcome, IsRun}
-use Rattle.circle_run.specs.declared.outcomes.Share.{Share}
-use Rattle.circle_run.specs.declared.outcomes.Finished.{Finished}
-use Rattle.circle_run.specs.declared.settings.Options.{Options}
-use Rattle.circle_run.specs.declared.ranks.Rank.{Rank}
+use Rattle.circle_run.proofs.Prelude.{◌≡◌, ◌≢◌, ℕ, suc, ◌-◌, ◌^◌, ◌<◌, ◌≤◌, ◌⊎◌, inl, inr, ⊎_elim, rules, min, refl, sym, subst, ap, ◌∙◌, arith, Bool, true}
+use Rattle.circle_run.proofs.Prelude.{false, cond, List, [], ◌∷◌, ◌++◌, append-nil, map, length, get_or, Option, Some, None, Vec, IsSome, length-map}
+use Rattle.circle_run.proofs.Prelude.{get_or-map, get_or_default, map-map, All-get_or, flat_map-map, sum-map, flat_map, range_with_len, sum_by, Event, Over}
+use Rattle.circle_run.proofs.Prelude.{started, Strings, Shown, is_served, Told, place, DeedsKeepSound, LateKeepsSound, fresh_told, AgreesIfTold, NoneOnTheWay}
+use Rattle.circle_run.proofs.Prelude.{SumShown, Log, Balanced, all_left, Move, RankSide, Stage, no_side, Plays, events_of_all, begun, NothingWaits}
+use Rattle.circle_run.proofs.Prelude.{NothingWaitsAtEnd, all_logged, all_queued, all_mailed, handled_by, given_by, taken_by, PlaysTurns, moves_of_turns}
+use Rattle.circle_run.proofs.Prelude.{RoundsAreFair, IsFair, counted, KeptOf, KeptAll, events_by, NoneLost, AreAll, Same, AllEnded, stage_of, Ran, KeptInOrder}
+use Rattle.circle_run.proofs.Prelude.{Played, IsTraced, share_in, IsProgress, IsOutcome, Share, Finished, Options, Rank}
+use Rattle.circle_run.specs.Hosts.{rank_of}
+use Rattle.circle_run.specs.Private.Outcomes.{IsRun}
+use Rattle.post_board.specs.Calls.{ByNumber as SeatsByNumber}
+use Rattle.sum_tree.specs.Shown.{ByNumber as SumsByNumber}
 use Rattle.circle_run.proofs.Runs.{moves_are_legal_run}
 use Rattle.circle_run.proofs.Totals.{nothing_mailed, moves_are_balanced, given_is_taken_or_mailed}
 use Rattle.circle_run.proofs.Logs.{logs_are_handled}

@@ -1,25 +1,13 @@
 -- What a move does to the strings of a rank and of the mailboxes, whatever a string weighs, and what a run of moves does to those of all ranks.
-use Rattle.std.proofs.Common.{◌≡◌, ℕ, ◌+◌, ◌<◌, ◌≤◌, refl, sym, subst, ap, ◌∙◌, arith, Bool, true, false, cond, List, [], ◌∷◌, ◌++◌, map, length}
-use Rattle.std.proofs.Common.{length-set, get_or-set_other, append-nil, Option, Some, eq-eqb, ne_eqb}
-use Rattle.std.specs.List.{sum_by, flat_map}
-use Rattle.std.proofs.lemmas.List.{nil_from_length}
-use Rattle.std.proofs.lemmas.List.Sums.{sum_by-append, sum_by_push}
-use mathlib.Core.Logic.{dite}
-use native.Mathlib.Decide.{ℕ_discrete}
-use Rattle.ring_core.specs.declared.states.Colour.TheVariants.{White}
-use Rattle.post_board.specs.Shown.{Strings}
-use Rattle.post_board.specs.Told.{Mail, vacant, asked, full, empty, Place, Told, no_place, place, put_place}
-use Rattle.post_board.specs.Deeds.{Deed, ask, give, refuse, take, take_none, pass, restart, conclude, see_over, Legal, told_after, blackened}
-use Rattle.post_board.specs.Deeds.{Late, withdraw, halt, stop, LegalLate, told_late}
+use Rattle.circle_run.proofs.Prelude.{◌≡◌, ℕ, ◌+◌, ◌<◌, ◌≤◌, refl, sym, subst, ap, ◌∙◌, arith, Bool, true, false, cond, List, [], ◌∷◌, ◌++◌, map, length}
+use Rattle.circle_run.proofs.Prelude.{length-set, get_or-set_other, append-nil, Option, Some, eq-eqb, ne_eqb, sum_by, flat_map, nil_from_length, sum_by-append}
+use Rattle.circle_run.proofs.Prelude.{sum_by_push, dite, ℕ_discrete, White, Strings, Mail, vacant, asked, full, empty, Place, Told, no_place, place, put_place}
+use Rattle.circle_run.proofs.Prelude.{Deed, ask, give, refuse, take, take_none, pass, restart, conclude, see_over, Legal, told_after, blackened, Late, withdraw}
+use Rattle.circle_run.proofs.Prelude.{halt, stop, LegalLate, told_late, Move, handled, served, did, noted, Side, answer_of, Queues, TellsAll, Does, RankSide}
+use Rattle.circle_run.proofs.Prelude.{side, batch_in, handled_in, given_in, taken_in, Options, size_after}
 use Rattle.circle_run.specs.Balance as balance
-use Rattle.circle_run.specs.Moves.{Move, handled, served, did, noted, Side, answer_of, Queues, TellsAll, Does}
-use Rattle.circle_run.specs.Stages.{RankSide, side}
-use Rattle.circle_run.specs.Waiting.{batch_in}
-use Rattle.circle_run.specs.Shares.{handled_in, given_in, taken_in}
-use Rattle.circle_run.specs.declared.settings.Options.{Options}
 use Rattle.circle_run.proofs.Deeds.{some_is}
 use Rattle.circle_run.proofs.Sums.{sum_by-set}
-use Rattle.post_board.proofs.DeedLemmas.{size_after}
 
 abbrev Weight : Type 0
 Weight = List ℕ → ℕ

@@ -1,13 +1,8 @@
 -- Seats that stand by their numbers are gathered.
-use Rattle.std.proofs.Common.{◌≡◌, ℕ, ◌<◌, sym, ap, ◌∙◌, arith, List, map, length, get_or, Some}
-use Rattle.std.proofs.lemmas.List.{length-map, get_or-map}
-use Rattle.std.proofs.lemmas.List.Elements.{Contains-get_or}
-use Rattle.std.proofs.lemmas.List.Sorted.{IsPermutation-refl}
-use Rattle.std.specs.List.{Contains}
-use Rattle.post_board.specs.Shown.{Shown}
-use Rattle.post_board.specs.Calls.{ByNumber as SeatsByNumber, AllDone}
-use Rattle.sum_tree.specs.Shown.{SumShown, ByNumber as SumsByNumber, AllFinished}
-use Rattle.circle_run.specs.declared.ranks.Rank.{Rank}
+use Rattle.circle_run.proofs.Prelude.{◌≡◌, ℕ, ◌<◌, sym, ap, ◌∙◌, arith, List, map, length, get_or, Some, length-map, get_or-map, Contains-get_or}
+use Rattle.circle_run.proofs.Prelude.{IsPermutation-refl, Contains, Shown, AllDone, SumShown, AllFinished, Rank}
+use Rattle.post_board.specs.Calls.{ByNumber as SeatsByNumber}
+use Rattle.sum_tree.specs.Shown.{ByNumber as SumsByNumber}
 
 pub all_done : {S : Type 0} (shows : S → Shown) (seats : S → Type 0) (all : List S) → SeatsByNumber shows seats all → AllDone shows seats all
 all_done shows seats all by = record { ranks = all; by_number = by; same = IsPermutation-refl all }

@@ -1,24 +1,9 @@
 -- What a rank reads of the ring, how it moves the token on, and whether it is to halt.
-use Rattle.std.proofs.Common.{◌≡◌, ◌≢◌, ℕ, zero, suc, ◌<◌, refl, sym, subst, inl, ap, ◌∙◌, arith, Bool, true, false, [], ◌∷◌}
-use Rattle.std.proofs.Common.{◌||◌, ◌&&◌, Option, Some, None}
-use Rattle.std.specs.Prelude.{not}
-use Rattle.ring_core.specs.World.{darker}
-use Rattle.ring_core.specs.declared.states.Colour.{Colour}
-use Rattle.ring_core.specs.declared.states.Colour.TheVariants.{White, Black}
-use Rattle.post_board.specs.Shown.{Shown}
-use Rattle.post_board.specs.Told.{Told}
-use Rattle.post_board.specs.Deeds.{Deed, pass, restart, conclude}
-use Rattle.post_board.specs.Calls.{RingTold, hearing}
-use Rattle.post_board.specs.declared.answers.Ring.{Ring}
-use Rattle.post_board.specs.declared.answers.Ring.TheVariants.{Elsewhere, Here, Over as HeardOver, Halted as HeardHalted}
-use Rattle.circle_run.specs.Moves.{did, IsHalted}
-use Rattle.circle_run.specs.Choices.{to_move, moved_on}
-use Rattle.circle_run.specs.Choices.{is_halt, tells_first, has_done_all, is_to_halt}
-use Rattle.circle_run.specs.Private.Steps.{Follows}
-use Rattle.circle_run.specs.declared.steps.Did.TheVariants.{Acted}
-use Rattle.circle_run.specs.declared.ranks.Rank.{Rank}
+use Rattle.circle_run.proofs.Prelude.{◌≡◌, ◌≢◌, ℕ, zero, suc, ◌<◌, refl, sym, subst, inl, ap, ◌∙◌, arith, Bool, true, false, [], ◌∷◌, ◌||◌, ◌&&◌, Option, Some}
+use Rattle.circle_run.proofs.Prelude.{None, not, darker, Colour, White, Black, Shown, Told, Deed, pass, restart, conclude, RingTold, hearing, Ring, Elsewhere}
+use Rattle.circle_run.proofs.Prelude.{Here, did, IsHalted, to_move, moved_on, is_halt, tells_first, has_done_all, is_to_halt, Follows, Acted, Rank, or_parts}
+use Rattle.post_board.specs.declared.answers.Ring.TheVariants.{Over as HeardOver, Halted as HeardHalted}
 use Rattle.circle_run.proofs.Asked.{true_not_false}
-use Rattle.std.proofs.lemmas.Bool.{or_parts}
 
 -- where it read that all are to halt, they are
 pub halt_read : (ring : Ring) (s : Shown) (t t' : Option Told) → ring ≡ HeardHalted → RingTold s ring t t' → IsHalted t'

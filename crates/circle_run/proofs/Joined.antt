@@ -1,15 +1,7 @@
 -- Ranks that came back from threads.
-use Rattle.std.proofs.Common.{◌≡◌, ℕ, ◌+◌, ◌<◌, sym, subst, ap, ◌∙◌, arith, Bool, true, false, List, [], ◌++◌, length, length-append, get_or, All}
-use Rattle.std.proofs.Common.{IfOk, Result, Ok, Err}
-use Rattle.std.specs.List.{sum_by}
-use Rattle.std.proofs.lemmas.List.{get_or_default, get_or_append_left, get_or-append-add}
-use Rattle.std.proofs.lemmas.List.Elements.{All-append}
-use Rattle.post_board.specs.Shown.{Shown}
-use Rattle.sum_tree.specs.Shown.{SumShown}
-use Rattle.circle_run.specs.Balance.{Log}
-use Rattle.circle_run.specs.Hosts.{NoneLost, Placed, AllReady, Alone}
-use Rattle.circle_run.specs.declared.ranks.Rank.{Rank}
-use Rattle.circle_run.specs.Private.Away.{IsOne, HostRan, EndOf, AreDone}
+use Rattle.circle_run.proofs.Prelude.{◌≡◌, ℕ, ◌+◌, ◌<◌, sym, subst, ap, ◌∙◌, arith, Bool, true, false, List, [], ◌++◌, length, length-append, get_or, All, IfOk}
+use Rattle.circle_run.proofs.Prelude.{Result, Ok, Err, sum_by, get_or_default, get_or_append_left, get_or-append-add, All-append, Shown, SumShown, Log}
+use Rattle.circle_run.proofs.Prelude.{NoneLost, Placed, AllReady, Alone, Rank, IsOne, HostRan, EndOf, AreDone}
 use Rattle.circle_run.proofs.Places.{same_numbers}
 
 module _ {J S T P Q D : Type 0} (log : J → Log) (plain : J → D) (shows : S → Shown) (seats : P → S → Type 0)

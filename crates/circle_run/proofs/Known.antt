@@ -1,10 +1,6 @@
 -- A rank knows the facts that its seat shows, also after a change of some.
-use Rattle.std.proofs.Common.{◌≡◌, ℕ, refl, sym, ap, ◌∙◌, Bool, true, false, List, [], length, Option, Some}
-use Rattle.ring_core.specs.declared.states.Colour.{Colour}
-use Rattle.post_board.specs.Shown.{Strings, Batches, Shown}
-use Rattle.circle_run.specs.Ranks.{Knows}
-use Rattle.circle_run.specs.declared.books.Book.{Book}
-use Rattle.circle_run.specs.declared.ranks.Rank.{Rank}
+use Rattle.circle_run.proofs.Prelude.{◌≡◌, ℕ, refl, sym, ap, ◌∙◌, Bool, true, false, List, [], length, Option, Some, Colour, Strings, Batches, Shown, Knows}
+use Rattle.circle_run.proofs.Prelude.{Book, Rank}
 
 module _ {J S T : Type 0} (shows : S → Shown) where
   -- the seat shows other ranks that it serves, another colour and other batches, and the queue is another

@@ -1,16 +1,9 @@
 -- What lasts while moves are played: who has seen the end has seen it, and who waits after moves of others waited before them.
-use Rattle.std.proofs.Common.{◌≡◌, ℕ, ◌+◌, ◌<◌, ◌≢◌, refl, sym, subst, ap, ◌∙◌, arith, true, false, List, [], ◌∷◌, ◌++◌, map, length, length-append}
-use Rattle.std.proofs.Common.{length-set, set, get_or-set_same, get_or-set_other, Option, Some}
-use mathlib.Core.Logic.{dite}
-use native.Mathlib.Decide.{ℕ_discrete}
-use Rattle.post_board.specs.Shown.{Strings}
-use Rattle.post_board.specs.Told.{full, empty, Place, Told, no_place, place, put_place}
-use Rattle.post_board.specs.Deeds.{Deed, ask, give, refuse, take, take_none, pass, restart, conclude, see_over, Legal, told_after, blackened}
-use Rattle.post_board.specs.Deeds.{Late, withdraw, halt, stop, LegalLate, told_late}
-use Rattle.circle_run.specs.Moves.{Move, handled, served, did, noted, Side, answer_of, events_of, TellsAll, Does}
-use Rattle.circle_run.specs.Stages.{RankSide, Stage, rank_side, side, Plays}
-use Rattle.circle_run.specs.Fair.{moves_in, is_waiting}
-use Rattle.circle_run.specs.declared.settings.Options.{Options}
+use Rattle.circle_run.proofs.Prelude.{◌≡◌, ℕ, ◌+◌, ◌<◌, ◌≢◌, refl, sym, subst, ap, ◌∙◌, arith, true, false, List, [], ◌∷◌, ◌++◌, map, length, length-append}
+use Rattle.circle_run.proofs.Prelude.{length-set, set, get_or-set_same, get_or-set_other, Option, Some, dite, ℕ_discrete, Strings, full, empty, Place, Told}
+use Rattle.circle_run.proofs.Prelude.{no_place, place, put_place, Deed, ask, give, refuse, take, take_none, pass, restart, conclude, see_over, Legal}
+use Rattle.circle_run.proofs.Prelude.{told_after, blackened, Late, withdraw, halt, stop, LegalLate, told_late, Move, handled, served, did, noted, Side}
+use Rattle.circle_run.proofs.Prelude.{answer_of, events_of, TellsAll, Does, RankSide, Stage, rank_side, side, Plays, moves_in, is_waiting, Options}
 use Rattle.circle_run.proofs.Deeds.{some_is}
 use Rattle.circle_run.proofs.Actors.{NoHandle, answers_handle, deed_handles}
 

@@ -1,19 +1,9 @@
 -- What ranks leave at their end, in whatever way they ran: all have seen the end, or one has handled as many strings as it may.
-use Rattle.std.proofs.Common.{◌≡◌, ℕ, zero, suc, ◌<◌, ◌≤◌, ◌⊎◌, inl, inr, ⊎_elim, refl, sym, subst, ap, ◌∙◌, arith, true, List, []}
-use Rattle.std.proofs.Common.{◌∷◌, map, length, get_or, Option, Some, None, All}
-use Rattle.std.specs.Prelude.{IfSome}
-use Rattle.std.specs.List.{flat_map, Any}
-use Rattle.std.proofs.lemmas.List.{length-map, get_or-map}
-use Rattle.post_board.specs.Shown.{Strings, Shown}
-use Rattle.post_board.specs.Calls.{Halters}
-use Rattle.sum_tree.specs.Shown.{SumShown}
-use Rattle.circle_run.specs.Balance.{Log}
-use Rattle.circle_run.specs.Hosts.{NoneLost, AreAll, AllEnded}
-use Rattle.circle_run.specs.declared.settings.Options.{Options}
-use Rattle.circle_run.specs.declared.ranks.Rank.{Rank}
+use Rattle.circle_run.proofs.Prelude.{◌≡◌, ℕ, zero, suc, ◌<◌, ◌≤◌, ◌⊎◌, inl, inr, ⊎_elim, refl, sym, subst, ap, ◌∙◌, arith, true, List, [], ◌∷◌, map, length}
+use Rattle.circle_run.proofs.Prelude.{get_or, Option, Some, None, All, IfSome, flat_map, Any, length-map, get_or-map, Strings, Shown, Halters, SumShown, Log}
+use Rattle.circle_run.proofs.Prelude.{NoneLost, AreAll, AllEnded, Options, Rank, some_same}
 use Rattle.circle_run.proofs.Maps.{flat_none, map_each, some_of}
 use Rattle.circle_run.proofs.Turning.{either}
-use Rattle.post_board.proofs.PlainDeeds.{some_same}
 use Rattle.circle_run.proofs.Bounding.{if_some}
 
 module _ {X : Type 0} where

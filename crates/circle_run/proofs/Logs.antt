@@ -1,20 +1,10 @@
 -- The log of a rank is what it handled, in order, and so do the events of a run tell it.
-use Rattle.std.proofs.Common.{◌≡◌, ℕ, ◌≤◌, ◌≢◌, ⊎_elim, refl, sym, subst, ap, ◌∙◌, arith, Bool, cond, List, [], ◌∷◌, ◌++◌, map, length, length-set}
-use Rattle.std.proofs.Common.{set, get_or, get_or-set_same, get_or-set_other, append-nil, append_assoc, eq-eqb, ne_eqb}
-use Rattle.std.specs.List.{flat_map}
-use Rattle.std.proofs.lemmas.Bool.{cases_lt}
-use Rattle.std.proofs.lemmas.List.{set_past, get_or_past, map-append}
-use Rattle.std.proofs.lemmas.List.Concat.{flat_map-append}
-use mathlib.Core.Logic.{dite}
-use native.Mathlib.Decide.{ℕ_discrete}
-use Rattle.post_board.specs.Shown.{Strings}
-use Rattle.post_board.specs.Deeds.{Deed, ask, give, refuse, take, take_none, pass, restart, conclude, see_over, event_of}
-use Rattle.circle_run.specs.Balance.{Log}
-use Rattle.post_board.specs.Deeds.{withdraw, halt, stop}
-use Rattle.circle_run.specs.Moves.{Move, handled, served, did, noted, answer_of, events_of}
-use Rattle.circle_run.specs.Stages.{RankSide, Stage, no_side, rank_side, Plays, events_of_all, begun}
-use Rattle.circle_run.specs.Shares.{handled_in, moves_of, handled_at, LogsAreHandled, EventsTellLogs}
-use Rattle.circle_run.specs.declared.settings.Options.{Options}
+use Rattle.circle_run.proofs.Prelude.{◌≡◌, ℕ, ◌≤◌, ◌≢◌, ⊎_elim, refl, sym, subst, ap, ◌∙◌, arith, Bool, cond, List, [], ◌∷◌, ◌++◌, map, length, length-set, set}
+use Rattle.circle_run.proofs.Prelude.{get_or, get_or-set_same, get_or-set_other, append-nil, append_assoc, eq-eqb, ne_eqb, flat_map, cases_lt, set_past}
+use Rattle.circle_run.proofs.Prelude.{get_or_past, map-append, flat_map-append, dite, ℕ_discrete, Strings, Deed, ask, give, refuse, take, take_none, pass}
+use Rattle.circle_run.proofs.Prelude.{restart, conclude, see_over, event_of, Log, withdraw, halt, stop, Move, handled, served, did, noted, answer_of, events_of}
+use Rattle.circle_run.proofs.Prelude.{RankSide, Stage, no_side, rank_side, Plays, events_of_all, begun, handled_in, moves_of, handled_at, LogsAreHandled}
+use Rattle.circle_run.proofs.Prelude.{EventsTellLogs, Options}
 use Rattle.circle_run.proofs.Begun.{ranks_begun, places_begun, side_begun}
 use Rattle.circle_run.proofs.Flows.{Moved, moved}
 

@@ -1,20 +1,9 @@
 -- A rank's moves over a board that tells nothing.
-use Rattle.std.proofs.Common.{◌≡◌, ℕ, ◌<◌, false, refl, sym, subst, ap, ◌∙◌, arith, List, [], ◌∷◌, ◌++◌, map, length, length-set, set, get_or, Option, None}
-use Rattle.std.proofs.lemmas.List.{get_or_read, get_or_default}
-use Rattle.std.specs.List.{flat_map}
-use Rattle.std.proofs.lemmas.List.Concat.{flat_map-append}
-use Rattle.ring_core.specs.declared.events.Event.{Event}
-use Rattle.post_board.specs.Shown.{Shown}
-use Rattle.post_board.specs.Told.{Told}
-use Rattle.post_board.specs.Deeds.{Deed, Tells, Late, TellsLate}
-use Rattle.circle_run.specs.Balance.{Log}
-use Rattle.circle_run.specs.Moves.{Move, handled, served, did, noted, Side, answer_of, TellsAll, Does, events_of}
-use Rattle.circle_run.specs.Books.{counted}
-use Rattle.circle_run.specs.Ranks.{DoesAll, side}
-use Rattle.circle_run.specs.Hosts.{Same, Turning, Took, lone_side, Alone, AllAlone}
-use Rattle.circle_run.specs.declared.settings.Options.{Options}
-use Rattle.circle_run.specs.declared.outcomes.Share.{Share}
-use Rattle.circle_run.specs.declared.ranks.Rank.{Rank}
+use Rattle.circle_run.proofs.Prelude.{◌≡◌, ℕ, ◌<◌, false, refl, sym, subst, ap, ◌∙◌, arith, List, [], ◌∷◌, ◌++◌, map, length, length-set, set, get_or, Option}
+use Rattle.circle_run.proofs.Prelude.{None, get_or_read, get_or_default, flat_map, flat_map-append, Event, Shown, Told, Deed, Tells, Late, TellsLate, Log, Move}
+use Rattle.circle_run.proofs.Prelude.{handled, served, did, noted, Side, answer_of, TellsAll, Does, events_of, counted, DoesAll, Same, Turning, Took, lone_side}
+use Rattle.circle_run.proofs.Prelude.{Alone, AllAlone, Options, Share, Rank}
+use Rattle.circle_run.specs.Ranks.{side}
 use Rattle.circle_run.proofs.Stepped.{does_then, counted_then}
 use Rattle.circle_run.proofs.Rounds.{each-set}
 

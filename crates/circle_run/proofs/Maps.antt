@@ -1,11 +1,7 @@
 -- Lists that are made of the elements of others, by index.
-use Rattle.std.proofs.Common.{◌≡◌, ℕ, zero, suc, ◌+◌, ◌<◌, min, refl, sym, subst, ap, ◌∙◌, arith, List, [], ◌∷◌, ◌++◌, map, length, get_or}
-use Rattle.std.proofs.Common.{append-nil, append_assoc, ⊎_elim}
-use Rattle.std.proofs.lemmas.Bool.{cases_lt}
-use Rattle.std.proofs.lemmas.List.{length-map, get_or-map, get_or_append_left, get_or_push, length_push, map_push}
-use Rattle.std.proofs.lemmas.List.FromFn.{fill_by_all}
-use Rattle.std.proofs.lemmas.List.Sums.{sum_by-cons}
-use Rattle.std.specs.List.{flat_map, range_with_len, sum_by}
+use Rattle.circle_run.proofs.Prelude.{◌≡◌, ℕ, zero, suc, ◌+◌, ◌<◌, min, refl, sym, subst, ap, ◌∙◌, arith, List, [], ◌∷◌, ◌++◌, map, length, get_or, append-nil}
+use Rattle.circle_run.proofs.Prelude.{append_assoc, ⊎_elim, cases_lt, length-map, get_or-map, get_or_append_left, get_or_push, length_push, map_push}
+use Rattle.circle_run.proofs.Prelude.{fill_by_all, sum_by-cons, flat_map, range_with_len, sum_by}
 
 module _ {X Y : Type 0} where
   pub map_is : (f : X → Y) (g : ℕ → Y) (xs : List X) (n : ℕ) → length xs ≡ n → ((k : ℕ) (d : X) → k < length xs → f (get_or xs k d) ≡ g k)

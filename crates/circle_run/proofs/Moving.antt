@@ -1,17 +1,6 @@
 -- An idle rank moves the token on, by one call of its board: it passes the token, sends it round again, or concludes.
-use Rattle.std.proofs.Common.{◌≡◌, [], ◌∷◌, Option}
-use Rattle.ring_core.specs.World.{darker}
-use Rattle.ring_core.specs.declared.states.Colour.{Colour}
-use Rattle.post_board.specs.Shown.{Shown}
-use Rattle.post_board.specs.Told.{Told}
-use Rattle.post_board.specs.Deeds.{Deed, event_of, Tells}
-use Rattle.circle_run.specs.Balance.{Log}
-use Rattle.circle_run.specs.Choices.{to_move, moved_on}
-use Rattle.circle_run.specs.Moves.{Draws}
-use Rattle.circle_run.specs.Private.Books.{Writes}
-use Rattle.circle_run.specs.Private.Steps.{Follows, Came}
-use Rattle.circle_run.specs.declared.ranks.Rank.{Rank}
-use Rattle.circle_run.specs.declared.steps.Did.TheVariants.{Acted}
+use Rattle.circle_run.proofs.Prelude.{◌≡◌, [], ◌∷◌, Option, darker, Colour, Shown, Told, Deed, event_of, Tells, Log, to_move, moved_on, Draws, Writes, Follows}
+use Rattle.circle_run.proofs.Prelude.{Came, Rank, Acted}
 use Rattle.circle_run.proofs.Called.{Keeps, Calls, IsIdle, came_idle}
 use Rattle.circle_run.proofs.Hearing.{follows_moved}
 

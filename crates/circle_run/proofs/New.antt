@@ -1,18 +1,9 @@
 -- A rank that has done nothing is ready for its first turn.
-use Rattle.std.proofs.Common.{◌≡◌, ℕ, ◌<◌, ◌≤◌, refl, sym, subst, ap, ◌∙◌, arith, true, false, List, [], length, Option, None, Some}
-use Rattle.std.proofs.lemmas.List.{length-replicate}
-use Rattle.post_board.specs.Shown.{Shown, Batches, Strings, is_served}
+use Rattle.circle_run.proofs.Prelude.{◌≡◌, ℕ, ◌<◌, ◌≤◌, refl, sym, subst, ap, ◌∙◌, arith, true, false, List, [], length, Option, None, Some, length-replicate}
+use Rattle.circle_run.proofs.Prelude.{Shown, Batches, Strings, is_served, SumShown, Share, Log, Keeps, KeptOf, IsNew, Ready, Options, Rank, never}
 use Rattle.post_board.specs.Fresh.{fresh}
-use Rattle.sum_tree.specs.Shown.{SumShown}
 use Rattle.sum_tree.specs.Plain.{fresh as fresh_sums}
-use Rattle.circle_run.specs.declared.outcomes.Share.{Share}
 use Rattle.circle_run.proofs.Bounding.{if_some}
-use Rattle.circle_run.specs.Balance.{Log}
-use Rattle.circle_run.specs.Progress.{Keeps, KeptOf}
-use Rattle.circle_run.specs.Ready.{IsNew, Ready}
-use Rattle.circle_run.specs.declared.settings.Options.{Options}
-use Rattle.circle_run.specs.declared.ranks.Rank.{Rank}
-use Rattle.sum_tree.proofs.StartLemmas.{never}
 
 keeps_nothing : (numbers : List ℕ) (n width me : ℕ) → numbers ≡ [] → Keeps numbers 0 (fresh_sums n width me)
 keeps_nothing numbers n width me none = subst (λ (xs : List ℕ). Keeps xs 0 (fresh_sums n width me)) (sym none)

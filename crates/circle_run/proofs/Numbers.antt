@@ -1,6 +1,5 @@
 -- Numbers of progress.
-use Rattle.std.proofs.Common.{◌≡◌, ℕ, suc, ◌+◌, ◌-◌, ◌<◌, ◌≤◌, refl, ap, ◌∙◌, arith, List, [], ◌∷◌, ◌++◌, length, get_or}
-use Rattle.circle_run.specs.Progress.{Rises, Thousands, newest}
+use Rattle.circle_run.proofs.Prelude.{◌≡◌, ℕ, suc, ◌+◌, ◌-◌, ◌<◌, ◌≤◌, refl, ap, ◌∙◌, arith, List, [], ◌∷◌, ◌++◌, length, get_or, Rises, Thousands, newest}
 
 pub newest_at : (from : ℕ) (xs : List ℕ) → 0 < length xs → get_or xs (length xs - 1) 0 ≡ newest from xs
 newest_at from [] h = absurd (omega arith)

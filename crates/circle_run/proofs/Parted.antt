@@ -1,13 +1,6 @@
 -- Ranks are parted into two hosts.
-use Rattle.std.proofs.Common.{◌≡◌, ℕ, suc, ◌+◌, ◌<◌, refl, sym, subst, ap, ◌∙◌, arith, List, [], ◌∷◌, ◌++◌, length, length-append, get_or}
-use Rattle.std.specs.List.{sum_by}
-use Rattle.std.proofs.lemmas.List.{get_or_append_left}
-use Rattle.std.proofs.lemmas.List.Sums.{sum_by-cons, sum_by-append}
-use Rattle.std.proofs.lemmas.List.Elements.{All-nil, All-cons, All-append}
-use mathlib.Core.Logic.{dite}
-use native.Mathlib.Decide.{ℕ_discrete}
-use Rattle.circle_run.specs.declared.ranks.Rank.{Rank}
-use Rattle.circle_run.specs.Private.Away.{IsOne, IsHost}
+use Rattle.circle_run.proofs.Prelude.{◌≡◌, ℕ, suc, ◌+◌, ◌<◌, refl, sym, subst, ap, ◌∙◌, arith, List, [], ◌∷◌, ◌++◌, length, length-append, get_or, sum_by}
+use Rattle.circle_run.proofs.Prelude.{get_or_append_left, sum_by-cons, sum_by-append, All-nil, All-cons, All-append, dite, ℕ_discrete, Rank, IsOne, IsHost}
 
 seam : {A : Type 0} (xs : List A) (y : A) (d : A) → get_or (xs ++ y ∷ []) (length xs) d ≡ y
 seam [] y d = refl

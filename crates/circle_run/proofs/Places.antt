@@ -1,13 +1,6 @@
 -- Lists of ranks by their numbers.
-use Rattle.std.proofs.Common.{◌≡◌, ℕ, zero, suc, ◌+◌, ◌-◌, ◌<◌, ◌≤◌, refl, ap, ◌∙◌, arith, ◌==◌, Bool, List, [], ◌∷◌, length, get_or, eq-eqb, ne_eqb}
-use Rattle.std.specs.List.{sum_by}
-use Rattle.std.proofs.lemmas.List.Sums.{sum_by-cons}
-use mathlib.Core.Logic.{dite}
-use native.Mathlib.Decide.{ℕ_discrete}
-use Rattle.std.specs.List.Sorted.{IsNonDecreasingBy}
-use Rattle.circle_run.specs.Hosts.{IsAscending}
-use Rattle.circle_run.specs.declared.ranks.Rank.{Rank}
-use Rattle.circle_run.specs.Private.Away.{one_if, InPlace}
+use Rattle.circle_run.proofs.Prelude.{◌≡◌, ℕ, zero, suc, ◌+◌, ◌-◌, ◌<◌, ◌≤◌, refl, ap, ◌∙◌, arith, ◌==◌, Bool, List, [], ◌∷◌, length, get_or, eq-eqb, ne_eqb}
+use Rattle.circle_run.proofs.Prelude.{sum_by, sum_by-cons, dite, ℕ_discrete, IsNonDecreasingBy, IsAscending, Rank, one_if, InPlace}
 
 module _ {J S T : Type 0} where
   -- how many have this number

@@ -1,22 +1,12 @@
 -- The turns of ranks in rounds are played, one behind the other.
-use Rattle.std.proofs.Common.{◌≡◌, ℕ, suc, ◌+◌, ◌*◌, ◌%◌, ◌<◌, refl, sym, subst, ap, ◌∙◌, arith, Bool, true, false, cond, List, [], ◌∷◌, ◌++◌, length}
-use Rattle.std.proofs.Common.{length-set, set, get_or, append_assoc, append-nil, mul-suc, mul-zero, Option, Some, None}
-use Rattle.std.proofs.Math.Nat.{mul-add-mod_self_left, mod-eq_of_lt}
-use Rattle.std.proofs.lemmas.List.{get_or-map, map-set, length-map, length_push, get_or_read, get_or_default}
-use Rattle.std.specs.List.{flat_map}
-use Rattle.ring_core.specs.declared.events.Event.{Event}
-use Rattle.post_board.specs.Shown.{Shown}
-use Rattle.post_board.specs.Told.{Told}
-use Rattle.circle_run.specs.Balance.{Log}
-use Rattle.circle_run.specs.Moves.{Move, Side, events_of}
-use Rattle.circle_run.specs.Stages.{RankSide, Stage, no_side, rank_side, side, Plays, events_of_all}
-use Rattle.circle_run.specs.Books.{counted}
-use Rattle.circle_run.specs.Fair.{moves_in, moves_of_turns}
-use Rattle.circle_run.specs.Ranks.{DoesAll, side as own_side}
-use Rattle.circle_run.specs.Hosts.{events_by, AreAll, MayIdleIfTold, Turning, rank_of, stage_of, Ran, KeptByEach, KeptInOrder}
-use Rattle.circle_run.specs.declared.outcomes.Share.{Share}
-use Rattle.circle_run.specs.declared.settings.Options.{Options}
-use Rattle.circle_run.specs.declared.ranks.Rank.{Rank}
+use Rattle.circle_run.proofs.Prelude.{◌≡◌, ℕ, suc, ◌+◌, ◌*◌, ◌%◌, ◌<◌, refl, sym, subst, ap, ◌∙◌, arith, Bool, true, false, cond, List, [], ◌∷◌, ◌++◌, length}
+use Rattle.circle_run.proofs.Prelude.{length-set, set, get_or, append_assoc, append-nil, mul-suc, mul-zero, Option, Some, None, mul-add-mod_self_left}
+use Rattle.circle_run.proofs.Prelude.{mod-eq_of_lt, get_or-map, map-set, length-map, length_push, get_or_read, get_or_default, flat_map, Event, Shown, Told}
+use Rattle.circle_run.proofs.Prelude.{Log, Move, Side, events_of, RankSide, Stage, no_side, rank_side, side, Plays, events_of_all, counted, moves_in}
+use Rattle.circle_run.proofs.Prelude.{moves_of_turns, DoesAll, events_by, AreAll, MayIdleIfTold, Turning, stage_of, Ran, KeptByEach, KeptInOrder, Share}
+use Rattle.circle_run.proofs.Prelude.{Options, Rank}
+use Rattle.circle_run.specs.Hosts.{rank_of}
+use Rattle.circle_run.specs.Ranks.{side as own_side}
 use Rattle.circle_run.proofs.Stepped.{counted_then, kept_then}
 use Rattle.circle_run.proofs.Staged.{bare, all_bare, stage, Staged, staged, turns_more, moves_more, events_by_own, events_by_other, events_of_turn}
 use Rattle.circle_run.proofs.Staged.{events_of_all-append}

@@ -1,16 +1,7 @@
 -- What comes of a pool while hosts are started and joined.
-use Rattle.std.proofs.Common.{◌≡◌, ℕ, ◌+◌, ◌≤◌, sym, subst, arith, List, [], ◌∷◌, ◌++◌, length, All, Vec}
-use Rattle.std.specs.List.{sum_by}
-use Rattle.std.specs.declared.alloc.Global.{Global}
-use Rattle.std.proofs.lemmas.List.Elements.{All-nil, All-cons, All-append}
-use Rattle.post_board.specs.Shown.{Shown}
-use Rattle.sum_tree.specs.Shown.{SumShown}
-use Rattle.circle_run.specs.Balance.{Log}
-use Rattle.circle_run.specs.Private.Away.{HostRan, IsOne, IsHost, AreDone}
-use Rattle.circle_run.specs.Private.Pooled.{pooled_numbers, IsStarted, HasRoom, Fits, Pooled}
-use Rattle.circle_run.specs.declared.ranks.Rank.{Rank}
-use Rattle.circle_run.specs.declared.started.Started.{Started}
-use Rattle.circle_run.specs.declared.pools.Pool.{Pool}
+use Rattle.circle_run.proofs.Prelude.{◌≡◌, ℕ, ◌+◌, ◌≤◌, sym, subst, arith, List, [], ◌∷◌, ◌++◌, length, All, Vec, sum_by, Global, All-nil, All-cons, All-append}
+use Rattle.circle_run.proofs.Prelude.{Shown, SumShown, Log, HostRan, IsOne, IsHost, AreDone, pooled_numbers, IsStarted, HasRoom, Pooled, Rank, Started, Pool}
+use Rattle.circle_run.specs.Private.Pooled.{Fits}
 use Rattle.circle_run.proofs.Places.{ones}
 use Rattle.circle_run.proofs.Joined.{done_of, done_append}
 

@@ -1,23 +1,11 @@
 -- A rank handles a string only while no other rank asks it.
-use Rattle.std.proofs.Common.{◌≡◌, ℕ, zero, suc, ◌+◌, ◌<◌, ◌≢◌, ◌==◌, refl, sym, subst, ap, ◌∙◌, arith, Bool, true, false, not, cond, ◌&&◌, List, []}
-use Rattle.std.proofs.Common.{◌∷◌, ◌++◌, length, set, get_or, eq-eqb, ne_eqb}
-use Rattle.std.specs.Prelude.{filter}
-use Rattle.std.specs.List.{range_with_len}
-use Rattle.std.proofs.lemmas.List.FromFn.{length-range_with_len, get_or-range_with_len}
-use Rattle.ring_core.specs.declared.states.RankState.{RankState}
-use Rattle.ring_core.specs.declared.events.Event.{Event}
-use Rattle.ring_core.specs.declared.events.Event.TheVariants.{Handle}
-use Rattle.ring_core.specs.World.{Seen, started}
-use Rattle.ring_core.specs.Step.{after}
+use Rattle.circle_run.proofs.Prelude.{◌≡◌, ℕ, zero, suc, ◌+◌, ◌<◌, ◌≢◌, ◌==◌, refl, sym, subst, ap, ◌∙◌, arith, Bool, true, false, cond, ◌&&◌, List, [], ◌∷◌}
+use Rattle.circle_run.proofs.Prelude.{◌++◌, length, set, get_or, eq-eqb, ne_eqb, filter, range_with_len, length-range_with_len, get_or-range_with_len}
+use Rattle.circle_run.proofs.Prelude.{RankState, Event, Handle, Seen, started, after, after_all, Strings, Mail, vacant, asked, full, empty, Told, place, Move}
+use Rattle.circle_run.proofs.Prelude.{handled, served, did, noted, events_of, Does, asks, askers, RankSide, Stage, rank_side, side, Plays, events_of_all, begun}
+use Rattle.circle_run.proofs.Prelude.{desk_of, handles, NobodyAsked, AnswersFirst, MovesAnswerFirst, Options}
+use Rattle.std.proofs.Common.{not}
 use Rattle.ring_core.specs.Step as step_of_world
-use Rattle.ring_core.specs.Run.{after_all}
-use Rattle.post_board.specs.Shown.{Strings}
-use Rattle.post_board.specs.Told.{Mail, vacant, asked, full, empty, Told, place}
-use Rattle.circle_run.specs.Moves.{Move, handled, served, did, noted, events_of, Does, asks, askers}
-use Rattle.circle_run.specs.Stages.{RankSide, Stage, rank_side, side, Plays, events_of_all, begun}
-use Rattle.circle_run.specs.Worlds.{desk_of}
-use Rattle.circle_run.specs.Fair.{handles, NobodyAsked, AnswersFirst, MovesAnswerFirst}
-use Rattle.circle_run.specs.declared.settings.Options.{Options}
 use Rattle.circle_run.proofs.Stopping.{moves_halt, quiet, never_late}
 use Rattle.circle_run.proofs.Actors.{NoHandle, answers_handle, deed_handles}
 use Rattle.circle_run.proofs.Reaching.{Reached, step, reached_at_start}

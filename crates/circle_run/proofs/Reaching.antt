@@ -1,16 +1,9 @@
 -- Stages that are reached from the start, with their worlds.
-use Rattle.std.proofs.Common.{◌≡◌, ℕ, refl, sym, ◌∙◌, List, [], ◌∷◌, ◌++◌, length, length-set, set, None}
-use Rattle.ring_core.specs.World.{Seen, fresh, dealt, started}
-use Rattle.ring_core.specs.Run.{after_all}
-use Rattle.post_board.specs.Shown.{Strings}
-use Rattle.post_board.specs.Told.{Told}
-use Rattle.circle_run.specs.Moves.{Move, events_of, Does}
-use Rattle.circle_run.specs.Stages.{RankSide, Stage, rank_side, side, Plays, begun}
-use Rattle.circle_run.specs.declared.settings.Options.{Options}
+use Rattle.circle_run.proofs.Prelude.{◌≡◌, ℕ, refl, sym, ◌∙◌, List, [], ◌∷◌, ◌++◌, length, length-set, set, None, Seen, fresh, dealt, started, after_all}
+use Rattle.circle_run.proofs.Prelude.{Strings, Told, Move, events_of, Does, RankSide, Stage, rank_side, side, Plays, begun, Options, length-map-range_with_len}
 use Rattle.circle_run.proofs.Stopping.{moves_halt}
 use Rattle.circle_run.proofs.Runs.{queues, Shows, Reaches, step_reaches, shows_begun}
 use Rattle.circle_run.proofs.Begun.{ranks_begun}
-use Rattle.std.proofs.lemmas.List.FromFn.{length-map-range_with_len}
 use Rattle.circle_run.proofs.Lasting.{Plays-append}
 
 -- a stage that is reached, and its world

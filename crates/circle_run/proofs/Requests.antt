@@ -1,14 +1,8 @@
 -- Requests that are taken up, one after the other.
-use Rattle.std.proofs.Common.{◌≡◌, ◌≢◌, ℕ, ◌+◌, ◌<◌, refl, sym, subst, ap, ◌∙◌, arith, true, List, take, length, length-set, set, Option, Some, None}
-use Rattle.std.proofs.lemmas.List.{take_more_set}
-use Rattle.post_board.specs.Shown.{Shown}
-use Rattle.post_board.specs.Told.{Told}
-use Rattle.post_board.specs.Deeds.{Stays}
-use Rattle.post_board.specs.Calls.{serving, Found, LookedFor, AgreesIfTold}
-use Rattle.circle_run.specs.Balance.{Log}
-use Rattle.circle_run.specs.Ranks.{Knows, ServesNone}
-use Rattle.circle_run.specs.Private.Services.{unserved, InOrderIfTold, Taken}
-use Rattle.circle_run.specs.declared.ranks.Rank.{Rank}
+use Rattle.circle_run.proofs.Prelude.{◌≡◌, ◌≢◌, ℕ, ◌+◌, ◌<◌, refl, sym, subst, ap, ◌∙◌, arith, true, List, length, length-set, set, Option, Some, None}
+use Rattle.circle_run.proofs.Prelude.{take_more_set, Shown, Told, Stays, serving, Found, LookedFor, AgreesIfTold, Log, Knows, ServesNone, unserved}
+use Rattle.circle_run.proofs.Prelude.{InOrderIfTold, Taken, Rank}
+use Rattle.std.proofs.Common.{take}
 use Rattle.circle_run.proofs.Stepped.{stays_same, still_then}
 use Rattle.circle_run.proofs.Known.{knows_served}
 use Rattle.circle_run.proofs.Asked.{unserved_set, unserved_all, asks_more, asks_none, ordered_none, ordered_more}

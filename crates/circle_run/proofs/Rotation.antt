@@ -1,7 +1,6 @@
 -- Who has the turns that come after turn number k, where turn number k is that of rank k mod n.
-use Rattle.std.proofs.Common.{◌≡◌, ℕ, suc, ◌+◌, ◌-◌, ◌*◌, ◌/◌, ◌%◌, ◌<◌, ◌≤◌, ◌≢◌, ⊎_elim, sym, ap, ◌∙◌, arith, mul-suc}
-use Rattle.std.proofs.Math.Nat.{mul-add-mod_self_left, mod-eq_of_lt, div-add-mod, mod-lt}
-use Rattle.std.proofs.lemmas.Bool.{cases_lt}
+use Rattle.circle_run.proofs.Prelude.{◌≡◌, ℕ, suc, ◌+◌, ◌-◌, ◌*◌, ◌/◌, ◌%◌, ◌<◌, ◌≤◌, ◌≢◌, ⊎_elim, sym, ap, ◌∙◌, arith, mul-suc, mul-add-mod_self_left}
+use Rattle.circle_run.proofs.Prelude.{mod-eq_of_lt, div-add-mod, mod-lt, cases_lt}
 
 -- the turn that the rank s has next after turn number k, and whose turns come until then
 pub low : (n k x : ℕ) → k % n + x < n → (k + x) % n ≡ k % n + x

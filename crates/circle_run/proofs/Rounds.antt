@@ -1,17 +1,8 @@
 -- Ranks that have their turns in rounds: what one turn keeps of all of them.
-use Rattle.std.proofs.Common.{◌≡◌, ℕ, zero, suc, ◌<◌, ◌≤◌, ◌≢◌, ⊎_elim, refl, sym, subst, ap, ◌∙◌, arith, Bool, true, false, List, [], ◌∷◌, length}
-use Rattle.std.proofs.Common.{Option, length-set, set, get_or, get_or-set_same, get_or-set_other}
-use Rattle.std.proofs.lemmas.Bool.{cases_lt, false_from_ne_true}
-use Rattle.std.proofs.lemmas.List.{get_or_read, get_or_default}
-use mathlib.Core.Logic.{dite}
-use native.Mathlib.Decide.{ℕ_discrete}
-use Rattle.post_board.specs.Shown.{Shown}
-use Rattle.post_board.specs.Told.{Told}
-use Rattle.sum_tree.specs.Shown.{SumShown}
-use Rattle.circle_run.specs.Balance.{Log}
-use Rattle.circle_run.specs.Hosts.{IsAscending, NoneLost, NoneWrote, AreAll, Same, Placed, AllPlaced, AllReady, AllEnded, Took}
-use Rattle.circle_run.specs.declared.settings.Options.{Options}
-use Rattle.circle_run.specs.declared.ranks.Rank.{Rank}
+use Rattle.circle_run.proofs.Prelude.{◌≡◌, ℕ, zero, suc, ◌<◌, ◌≤◌, ◌≢◌, ⊎_elim, refl, sym, subst, ap, ◌∙◌, arith, Bool, true, false, List, [], ◌∷◌, length}
+use Rattle.circle_run.proofs.Prelude.{Option, length-set, set, get_or, get_or-set_same, get_or-set_other, cases_lt, false_from_ne_true, get_or_read}
+use Rattle.circle_run.proofs.Prelude.{get_or_default, dite, ℕ_discrete, Shown, Told, SumShown, Log, IsAscending, NoneLost, NoneWrote, AreAll, Same, Placed}
+use Rattle.circle_run.proofs.Prelude.{AllPlaced, AllReady, AllEnded, Took, Options, Rank}
 use Rattle.circle_run.proofs.Known.{knows_queue}
 use Rattle.circle_run.proofs.Asked.{true_not_false}
 

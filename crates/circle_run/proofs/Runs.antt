@@ -1,32 +1,15 @@
 -- What is played is a legal run of the ranks' world, to the world of the stage.
-use Rattle.std.proofs.Common.{◌≡◌, ℕ, suc, ◌+◌, ◌<◌, ◌^◌, ◌==◌, ◌%◌, refl, sym, subst, ap, ◌∙◌, arith, Bool, true, false, cond, List, [], ◌∷◌, ◌++◌}
-use Rattle.std.proofs.Common.{map, length, length-append, append_assoc, length-set, set, get_or, get_or-set_same, get_or-set_other, Option, Some}
-use Rattle.std.proofs.Common.{None, eq-eqb, ne_eqb, count_by, ⊎_elim}
-use Rattle.std.proofs.lemmas.List.{get_or-replicate, length-replicate, nil_from_length}
-use Rattle.std.proofs.lemmas.List.FromFn.{length-map-range_with_len, get_or-map-range_with_len, fill_by_all}
-use Rattle.std.proofs.lemmas.List.Sums.{sum_by-cons}
-use Rattle.std.specs.List.{flat_map, range_with_len}
-use mathlib.Core.Logic.{dite}
-use native.Mathlib.Decide.{ℕ_discrete}
-use Rattle.ring_core.specs.declared.states.Token.{Token}
-use Rattle.ring_core.specs.declared.states.RankState.{RankState}
-use Rattle.ring_core.specs.declared.events.Event.{Event}
-use Rattle.ring_core.specs.declared.events.Event.TheVariants.{Handle}
-use Rattle.ring_core.specs.World.{Seen, fresh, rank_of, dealt, started}
-use Rattle.ring_core.specs.Step.{refusal, ranks_after, token_after, after}
-use Rattle.ring_core.specs.Picture.{put}
-use Rattle.ring_core.specs.Run.{IsRun, after_all}
-use Rattle.post_board.specs.Shown.{Strings}
-use Rattle.post_board.specs.Told.{Place, Told, no_place, place}
-use Rattle.post_board.specs.Deeds.{Deed, ask, give, refuse, take, take_none, pass, restart, conclude, see_over, Legal, told_after, event_of, Tells}
-use Rattle.circle_run.specs.Moves.{Move, handled, served, did, noted, Side, answer_of, events_of, Queues, TellsAll, Handles, Does}
-use Rattle.circle_run.specs.Stages.{RankSide, Stage, no_side, rank_side, side, Plays, events_of_all, dealt_from, new_place, begun}
-use Rattle.circle_run.specs.Worlds.{state_of, world_of, MovesAreLegalRun}
+use Rattle.circle_run.proofs.Prelude.{◌≡◌, ℕ, suc, ◌+◌, ◌<◌, ◌^◌, ◌==◌, ◌%◌, refl, sym, subst, ap, ◌∙◌, arith, Bool, true, false, cond, List, [], ◌∷◌, ◌++◌}
+use Rattle.circle_run.proofs.Prelude.{map, length, length-append, append_assoc, length-set, set, get_or, get_or-set_same, get_or-set_other, Option, Some, None}
+use Rattle.circle_run.proofs.Prelude.{eq-eqb, ne_eqb, count_by, ⊎_elim, get_or-replicate, length-replicate, nil_from_length, length-map-range_with_len}
+use Rattle.circle_run.proofs.Prelude.{get_or-map-range_with_len, fill_by_all, sum_by-cons, flat_map, range_with_len, dite, ℕ_discrete, Token, RankState, Event}
+use Rattle.circle_run.proofs.Prelude.{Handle, Seen, fresh, rank_of, dealt, started, refusal, ranks_after, token_after, after, put, IsRun, after_all, Strings}
+use Rattle.circle_run.proofs.Prelude.{Place, Told, no_place, place, Deed, ask, give, refuse, take, take_none, pass, restart, conclude, see_over, Legal}
+use Rattle.circle_run.proofs.Prelude.{told_after, event_of, Tells, Move, handled, served, did, noted, Side, answer_of, events_of, Queues, TellsAll, Handles}
+use Rattle.circle_run.proofs.Prelude.{Does, RankSide, Stage, no_side, rank_side, side, Plays, events_of_all, dealt_from, new_place, begun, state_of, world_of}
+use Rattle.circle_run.proofs.Prelude.{MovesAreLegalRun, Options, put_here, put_elsewhere, put_same, length-ranks_after}
 use Rattle.circle_run.specs.Stops.{Halts}
 use Rattle.circle_run.proofs.Stopping.{Quiet, quiet, never_late, halt_step, begun_halts}
-use Rattle.circle_run.specs.declared.settings.Options.{Options}
-use Rattle.ring_core.proofs.PictureLemmas.{put_here, put_elsewhere, put_same}
-use Rattle.ring_core.proofs.WorldLemmas.{length-ranks_after}
 use Rattle.circle_run.proofs.Deeds.{Shape, LeavesQueue, requeue, deed_legal, deed_leaves, handle_legal}
 use Rattle.circle_run.proofs.Deeds.{handle_leaves, token_same, some_is}
 use Rattle.circle_run.proofs.Begun.{ranks_begun, side_begun}

@@ -1,33 +1,17 @@
 -- A service, one answer after the other, and what it comes to.
-use Rattle.std.proofs.Common.{◌≡◌, ℕ, All, zero, suc, ◌+◌, ◌-◌, ◌<◌, ◌≤◌, ◌⊎◌, refl, sym, subst, ap, ◌∙◌, arith, Bool, true, false, List, [], ◌∷◌}
-use Rattle.std.proofs.Common.{◌++◌, map, take, length, length-append, append_assoc, append-nil, get_or, Option, None, inl, inr, replicate, ◌≢◌}
-use Rattle.std.specs.Prelude.{if◌then◌else◌}
-use Rattle.std.specs.List.{flat_map}
-use Rattle.std.proofs.lemmas.List.{map-append, length-map, length-take-le, get_or-take, get_or-map, nil_from_length}
+use Rattle.circle_run.proofs.Prelude.{◌≡◌, ℕ, All, zero, suc, ◌+◌, ◌-◌, ◌<◌, ◌≤◌, ◌⊎◌, refl, sym, subst, ap, ◌∙◌, arith, Bool, true, false, List, [], ◌∷◌, ◌++◌}
+use Rattle.circle_run.proofs.Prelude.{map, length, length-append, append_assoc, append-nil, get_or, Option, None, inl, inr, replicate, ◌≢◌, if◌then◌else◌}
+use Rattle.circle_run.proofs.Prelude.{flat_map, map-append, length-map, length-take-le, get_or-take, get_or-map, nil_from_length, take-suc, Lcg, Event, Strings}
+use Rattle.circle_run.proofs.Prelude.{Shown, Batches, Told, Deed, event_of, Tells, Log, Move, served, Side, answer_of, amounts, events_of, AreAskers, IsHalted}
+use Rattle.circle_run.proofs.Prelude.{IsShared, TellsAll, batches_after, batches_after_all, counted, DoesAll, Knows, Went, Came, Served, amounts_of, Fits}
+use Rattle.circle_run.proofs.Prelude.{AsksOf, Awaits, Taken, Gave, Answered, SoFar, Serving, Lot, ByLot, Book, Share, Options, Rank, false_from_ne_true}
+use Rattle.circle_run.proofs.Prelude.{in_list}
+use Rattle.std.proofs.Common.{take}
 use Rattle.std.proofs.lemmas.Grind.{flat_map-append}
-use Rattle.std.proofs.Math.Seq.{take-suc}
-use Rattle.rand_pcg.specs.Lcg.{Lcg}
-use Rattle.ring_core.specs.declared.events.Event.{Event}
-use Rattle.post_board.specs.Shown.{Strings, Shown, Batches}
-use Rattle.post_board.specs.Told.{Told}
-use Rattle.post_board.specs.Deeds.{Deed, event_of, Tells}
-use Rattle.circle_run.specs.Balance.{Log}
-use Rattle.circle_run.specs.Moves.{Move, served, Side, answer_of, amounts, events_of, AreAskers, IsHalted, IsShared, TellsAll, batches_after, batches_after_all}
-use Rattle.circle_run.specs.Books.{counted}
-use Rattle.circle_run.specs.Ranks.{DoesAll, Knows, side, Went}
-use Rattle.circle_run.specs.Private.Steps.{Came}
-use Rattle.circle_run.specs.Private.Steps.{Served}
-use Rattle.circle_run.specs.Private.Services.{amounts_of, Fits, AsksOf, Awaits, Taken, Gave, Answered, SoFar, Serving}
-use Rattle.circle_run.specs.declared.lots.Lot.{Lot}
-use Rattle.circle_run.specs.declared.lots.Lot.TheVariants.{Same, ByLot}
-use Rattle.circle_run.specs.declared.books.Book.{Book}
-use Rattle.circle_run.specs.declared.outcomes.Share.{Share}
-use Rattle.circle_run.specs.declared.settings.Options.{Options}
-use Rattle.circle_run.specs.declared.ranks.Rank.{Rank}
+use Rattle.circle_run.specs.Ranks.{side}
+use Rattle.circle_run.specs.declared.lots.Lot.TheVariants.{Same}
 use Rattle.circle_run.proofs.Stepped.{counted_then, kept_then, side_as, still_then, kept_none}
 use Rattle.circle_run.proofs.Asked.{true_not_false, asks_less, none_left}
-use Rattle.std.proofs.lemmas.Bool.{false_from_ne_true}
-use Rattle.post_board.proofs.CallLemmas.{in_list}
 
 told_push : (me : ℕ) (ds : List Deed) (d : Deed) (a b c : Option Told) → TellsAll me ds a b → Tells me d b c → TellsAll me (ds ++ d ∷ []) a c
 told_push me [] d a b c all one = (c, subst (λ (x : Option Told). Tells me d x c) all one, refl)

@@ -1,17 +1,8 @@
 -- What a rank gives to those that ask it is less than it has: one string stays.
-use Rattle.std.proofs.Common.{◌≡◌, ℕ, zero, suc, ◌+◌, ◌-◌, ◌*◌, ◌/◌, ◌<◌, ◌≤◌, ◌^◌, ◌==◌, min, cond, Bool, true, false, List, ◌++◌, length, map}
-use Rattle.std.proofs.Common.{replicate, sym, ap, ◌∙◌, arith, mul-zero, length-append}
-use Rattle.std.specs.List.{sum_by, flat_map}
-use Rattle.std.proofs.Math.Nat.{mul-div-le, suc-mul, mod-lt}
-use Rattle.std.proofs.lemmas.List.Folds.{sum_by-replicate}
-use Rattle.std.proofs.lemmas.List.Sums.{sum_by-cons, sum-map}
-use Rattle.std.proofs.lemmas.List.Concat.{length-flat_map}
-use Rattle.rand_pcg.specs.Lcg.{Lcg}
-use Rattle.rank_queue.specs.Shares.{word, after_word, equal_share, random_share}
-use Rattle.circle_run.specs.Moves.{lots, amounts}
-use Rattle.circle_run.specs.declared.settings.Split.{Split}
-use Rattle.circle_run.specs.declared.settings.Split.TheVariants.{Equal, Random}
-use Rattle.post_board.specs.Shown.{Strings}
+use Rattle.circle_run.proofs.Prelude.{◌≡◌, ℕ, zero, suc, ◌+◌, ◌-◌, ◌*◌, ◌/◌, ◌<◌, ◌≤◌, ◌^◌, ◌==◌, min, cond, Bool, true, false, List, ◌++◌, length, map}
+use Rattle.circle_run.proofs.Prelude.{replicate, sym, ap, ◌∙◌, arith, mul-zero, length-append, sum_by, flat_map, mul-div-le, suc-mul, mod-lt, sum_by-replicate}
+use Rattle.circle_run.proofs.Prelude.{sum_by-cons, sum-map, length-flat_map, Lcg, word, after_word, equal_share, random_share, lots, amounts, Split, Equal}
+use Rattle.circle_run.proofs.Prelude.{Random, Strings}
 
 abbrev total : List ℕ → ℕ
 total shares = sum_by (λ (k : ℕ). k) shares

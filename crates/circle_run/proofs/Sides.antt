@@ -1,13 +1,7 @@
 -- A move over a board that tells its places, by a seat that keeps no batches, leaves such a side again, so the moves of a rank are played in a stage.
-use Rattle.std.proofs.Common.{◌≡◌, ℕ, refl, subst, ap, ◌∙◌, List, [], ◌∷◌, map, Option, Some, None}
-use Rattle.rand_pcg.specs.Lcg.{Lcg}
-use Rattle.post_board.specs.Shown.{Strings, Batches}
-use Rattle.post_board.specs.Told.{Told}
-use Rattle.post_board.specs.Deeds.{Deed, ask, give, refuse, take, take_none, pass, restart, conclude, see_over, told_after, told_late}
-use Rattle.circle_run.specs.Balance.{Log}
-use Rattle.circle_run.specs.Moves.{Move, handled, served, did, noted, Side, answer_of, TellsAll, batches_after, batches_after_all, Does}
-use Rattle.circle_run.specs.Stages.{RankSide, side}
-use Rattle.circle_run.specs.declared.settings.Options.{Options}
+use Rattle.circle_run.proofs.Prelude.{◌≡◌, ℕ, refl, subst, ap, ◌∙◌, List, [], ◌∷◌, map, Option, Some, None, Lcg, Strings, Batches, Told, Deed, ask, give}
+use Rattle.circle_run.proofs.Prelude.{refuse, take, take_none, pass, restart, conclude, see_over, told_after, told_late, Log, Move, handled, served, did, noted}
+use Rattle.circle_run.proofs.Prelude.{Side, answer_of, TellsAll, batches_after, batches_after_all, Does, RankSide, side, Options}
 
 -- the side of a rank in a stage
 pub record IsTold (s : Side) : Type 0 where

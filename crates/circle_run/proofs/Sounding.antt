@@ -1,15 +1,8 @@
 -- What is told in a run is sound, so all is over once a rank has seen the end.
-use Rattle.std.proofs.Common.{◌≡◌, ℕ, ◌≤◌, inr, ⊎_elim, refl, sym, subst, ap, arith, true, false, List, [], ◌∷◌, map, set, replicate, Option, Some}
-use Rattle.std.proofs.lemmas.Bool.{cases_lt}
-use Rattle.std.proofs.lemmas.List.{get_or-replicate, length-replicate, get_or_past}
-use Rattle.ring_core.specs.declared.states.Colour.{Colour}
-use Rattle.ring_core.specs.declared.states.Colour.TheVariants.{Black}
-use Rattle.ring_core.specs.declared.states.Token.TheVariants.{At, Over}
-use Rattle.post_board.specs.Told.{Place, Told, no_place, place, Sound}
-use Rattle.post_board.specs.Deeds.{Deed, told_after, told_late, DeedsKeepSound, LateKeepsSound}
-use Rattle.circle_run.specs.Moves.{Move, handled, served, did, noted, Side, answer_of, TellsAll, Does}
-use Rattle.circle_run.specs.Stages.{RankSide, Stage, rank_side, side, Plays, new_place, new_told}
-use Rattle.circle_run.specs.declared.settings.Options.{Options}
+use Rattle.circle_run.proofs.Prelude.{◌≡◌, ℕ, ◌≤◌, inr, ⊎_elim, refl, sym, subst, ap, arith, true, false, List, [], ◌∷◌, map, set, replicate, Option, Some}
+use Rattle.circle_run.proofs.Prelude.{cases_lt, get_or-replicate, length-replicate, get_or_past, Colour, Black, At, Over, Place, Told, no_place, place, Sound}
+use Rattle.circle_run.proofs.Prelude.{Deed, told_after, told_late, DeedsKeepSound, LateKeepsSound, Move, handled, served, did, noted, Side, answer_of, TellsAll}
+use Rattle.circle_run.proofs.Prelude.{Does, RankSide, Stage, rank_side, side, Plays, new_place, new_told, Options}
 use Rattle.circle_run.proofs.Deeds.{some_is}
 
 module _ (keeps : DeedsKeepSound) (late_keeps : LateKeepsSound) where

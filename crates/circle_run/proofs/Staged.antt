@@ -1,19 +1,9 @@
 -- The moves of one rank are played in a stage, and turns are played behind turns.
-use Rattle.std.proofs.Common.{◌≡◌, ℕ, suc, ◌+◌, ◌%◌, ◌==◌, ◌<◌, ◌≢◌, refl, sym, subst, ap, ◌∙◌, arith, Bool, cond, List, [], ◌∷◌, ◌++◌, map, length}
-use Rattle.std.proofs.Common.{length-set, append_assoc, append-nil, set, get_or-set_same, eq-eqb, ne_eqb, None}
-use Rattle.std.proofs.lemmas.List.{set-set, set-get_or}
-use Rattle.std.proofs.lemmas.List.Concat.{flat_map-append}
-use Rattle.std.specs.List.{flat_map}
-use Rattle.ring_core.specs.declared.events.Event.{Event}
-use Rattle.post_board.specs.Told.{Told}
-use Rattle.post_board.specs.Deeds.{withdraw, halt, stop}
-use Rattle.circle_run.specs.Moves.{Move, handled, served, did, noted, Side, answer_of, events_of, Does}
-use Rattle.circle_run.specs.Stages.{RankSide, Stage, no_side, rank_side, side, Plays, events_of_all}
-use Rattle.circle_run.specs.Shares.{moves_of}
-use Rattle.circle_run.specs.Fair.{HandlesLast, MayIdle, moves_in, PlaysTurns, moves_of_turns}
-use Rattle.circle_run.specs.Ranks.{DoesAll}
-use Rattle.circle_run.specs.Hosts.{events_by}
-use Rattle.circle_run.specs.declared.settings.Options.{Options}
+use Rattle.circle_run.proofs.Prelude.{◌≡◌, ℕ, suc, ◌+◌, ◌%◌, ◌==◌, ◌<◌, ◌≢◌, refl, sym, subst, ap, ◌∙◌, arith, Bool, cond, List, [], ◌∷◌, ◌++◌, map, length}
+use Rattle.circle_run.proofs.Prelude.{length-set, append_assoc, append-nil, set, get_or-set_same, eq-eqb, ne_eqb, None, set-set, set-get_or, flat_map-append}
+use Rattle.circle_run.proofs.Prelude.{flat_map, Event, Told, withdraw, halt, stop, Move, handled, served, did, noted, Side, answer_of, events_of, Does}
+use Rattle.circle_run.proofs.Prelude.{RankSide, Stage, no_side, rank_side, side, Plays, events_of_all, moves_of, HandlesLast, MayIdle, moves_in, PlaysTurns}
+use Rattle.circle_run.proofs.Prelude.{moves_of_turns, DoesAll, events_by, Options}
 use Rattle.circle_run.proofs.Sides.{IsTold, move_leaves_told, no_batches, no_batches_of_all}
 
 -- a side without the batches that its seat keeps

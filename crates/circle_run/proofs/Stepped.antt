@@ -1,32 +1,12 @@
 -- What steps of a rank come to, one after the other.
-use Rattle.std.proofs.Common.{◌≡◌, ◌≢◌, ℕ, ◌<◌, refl, sym, subst, ap, ◌∙◌, arith, Bool, true, false, List, [], ◌∷◌, ◌++◌, length, append_assoc, append-nil}
-use Rattle.std.proofs.Common.{Option, Some, None}
-use Rattle.std.specs.Prelude.{if◌then◌else◌}
-use Rattle.std.specs.List.{flat_map}
+use Rattle.circle_run.proofs.Prelude.{◌≡◌, ◌≢◌, ℕ, ◌<◌, refl, sym, subst, ap, ◌∙◌, arith, Bool, true, false, List, [], ◌∷◌, ◌++◌, length, append_assoc}
+use Rattle.circle_run.proofs.Prelude.{append-nil, Option, Some, None, if◌then◌else◌, flat_map, darker, Colour, Black, Event, TakeNone, Lcg, Strings, Batches}
+use Rattle.circle_run.proofs.Prelude.{Shown, is_served, mixed, token_of, victim_of, Told, place, asked, is_stopped, Waits, with_service, Did, Handled, Acted}
+use Rattle.circle_run.proofs.Prelude.{Waited, Stopped, Deed, event_of, Tells, Stays, Late, withdraw, TellsLate, AgreesIfTold, Log, Move, handled, did, noted}
+use Rattle.circle_run.proofs.Prelude.{Side, DoesDeed, MayNote, MayHandle, noted_of, events_of, IsLive, NobodyAsks, counted, counted_one, Writes, DoesAll, Knows}
+use Rattle.circle_run.proofs.Prelude.{ServesNone, Went, Came, HandledNewest, Options, Share, Rank}
 use Rattle.std.proofs.lemmas.Grind.{flat_map-append}
-use Rattle.ring_core.specs.World.{darker}
-use Rattle.ring_core.specs.declared.states.Colour.{Colour}
-use Rattle.ring_core.specs.declared.states.Colour.TheVariants.{Black}
-use Rattle.ring_core.specs.declared.events.Event.{Event}
-use Rattle.ring_core.specs.declared.events.Event.TheVariants.{TakeNone}
-use Rattle.rand_pcg.specs.Lcg.{Lcg}
-use Rattle.post_board.specs.Shown.{Strings, Batches, Shown, is_served, mixed, token_of, victim_of}
-use Rattle.post_board.specs.Told.{Told, place, asked, is_stopped}
-use Rattle.circle_run.specs.Turns.{Waits}
-use Rattle.circle_run.specs.Private.Steps.{with_service}
-use Rattle.circle_run.specs.declared.steps.Did.{Did}
-use Rattle.circle_run.specs.declared.steps.Did.TheVariants.{Handled, Acted, Waited, Stopped}
-use Rattle.post_board.specs.Deeds.{Deed, event_of, Tells, Stays, Late, withdraw, TellsLate}
-use Rattle.post_board.specs.Calls.{AgreesIfTold}
-use Rattle.circle_run.specs.Balance.{Log}
-use Rattle.circle_run.specs.Moves.{Move, handled, did, noted, Side, DoesDeed, MayNote, MayHandle, noted_of, events_of, IsLive, NobodyAsks}
-use Rattle.circle_run.specs.Books.{counted, counted_one}
-use Rattle.circle_run.specs.Private.Books.{Writes}
-use Rattle.circle_run.specs.Ranks.{DoesAll, Knows, ServesNone, side, Went}
-use Rattle.circle_run.specs.Private.Steps.{Came, HandledNewest}
-use Rattle.circle_run.specs.declared.settings.Options.{Options}
-use Rattle.circle_run.specs.declared.outcomes.Share.{Share}
-use Rattle.circle_run.specs.declared.ranks.Rank.{Rank}
+use Rattle.circle_run.specs.Ranks.{side}
 use Rattle.circle_run.proofs.Known.{knows_queue}
 
 abbrev made : Strings → Log → Lcg → Option Batches → Option Told → Side

@@ -1,25 +1,13 @@
 -- A run of moves halts only where some rank has handled its number of strings.
-use Rattle.std.proofs.Common.{◌≡◌, ℕ, zero, suc, ◌+◌, ◌<◌, ◌≤◌, refl, sym, subst, ap, ◌∙◌, arith, Bool, true, false, List, [], ◌∷◌, map, length}
-use Rattle.std.proofs.Common.{length-append, length-set, set, get_or, get_or-set_same, get_or-set_other, Option, Some, None}
-use Rattle.std.specs.List.{range_with_len}
-use Rattle.std.specs.Prelude.{IfSome}
-use Rattle.rank_queue.specs.Shares.{generator_of}
-use Rattle.std.proofs.lemmas.List.{length-replicate, get_or_past, length-map}
-use Rattle.std.proofs.lemmas.List.FromFn.{length-range_with_len}
-use mathlib.Core.Logic.{dite}
-use native.Mathlib.Decide.{ℕ_discrete, dec_lt}
-use Rattle.post_board.specs.Shown.{Strings}
-use Rattle.post_board.specs.Told.{Told, is_stopped}
-use Rattle.post_board.specs.Deeds.{Deed, ask, give, refuse, take, take_none, pass, restart, conclude, see_over, told_after}
-use Rattle.post_board.specs.Deeds.{Late, withdraw, halt, stop, told_late}
-use Rattle.circle_run.specs.Moves.{Move, handled, served, did, noted, Side, answer_of, IsHalted, TellsAll, MayHandle, Does}
-use Rattle.circle_run.specs.Stages.{RankSide, Stage, no_side, rank_side, side, Plays, dealt_to, new_place, begun}
-use Rattle.circle_run.specs.Stops.{Halts, MovesHalt}
-use Rattle.circle_run.specs.declared.settings.Options.{Options}
+use Rattle.circle_run.proofs.Prelude.{◌≡◌, ℕ, zero, suc, ◌+◌, ◌<◌, ◌≤◌, refl, sym, subst, ap, ◌∙◌, arith, Bool, true, false, List, [], ◌∷◌, map, length}
+use Rattle.circle_run.proofs.Prelude.{length-append, length-set, set, get_or, get_or-set_same, get_or-set_other, Option, Some, None, range_with_len, IfSome}
+use Rattle.circle_run.proofs.Prelude.{generator_of, length-replicate, get_or_past, length-map, length-range_with_len, dite, ℕ_discrete, dec_lt, Strings, Told}
+use Rattle.circle_run.proofs.Prelude.{is_stopped, Deed, ask, give, refuse, take, take_none, pass, restart, conclude, see_over, told_after, Late, withdraw, halt}
+use Rattle.circle_run.proofs.Prelude.{stop, told_late, Move, handled, served, did, noted, Side, answer_of, IsHalted, TellsAll, MayHandle, Does, RankSide, Stage}
+use Rattle.circle_run.proofs.Prelude.{no_side, rank_side, side, Plays, dealt_to, new_place, begun, MovesHalt, Options, false_from_ne_true, never}
+use Rattle.circle_run.specs.Stops.{Halts}
 use Rattle.circle_run.proofs.Deeds.{some_is}
 use Rattle.circle_run.proofs.Flows.{moved}
-use Rattle.std.proofs.lemmas.Bool.{false_from_ne_true}
-use Rattle.sum_tree.proofs.StartLemmas.{never}
 
 -- the halt and the stops that are told are the same
 abbrev Words : Told → Told → Type 0

@@ -1,9 +1,6 @@
 -- Sums over lists of which one element is replaced, and over ranks.
-use Rattle.std.proofs.Common.{◌≡◌, ℕ, zero, suc, ◌+◌, ◌<◌, ◌≤◌, ◌≢◌, ◌==◌, refl, ap, arith, Bool, cond, List, [], ◌∷◌, length, set, get_or, eq-eqb, ne_eqb}
-use Rattle.std.specs.List.{sum_by, flat_map, range_with_len}
-use Rattle.std.proofs.lemmas.List.Sums.{sum_by-cons, sum_by-append}
-use mathlib.Core.Logic.{dite}
-use native.Mathlib.Decide.{ℕ_discrete}
+use Rattle.circle_run.proofs.Prelude.{◌≡◌, ℕ, zero, suc, ◌+◌, ◌<◌, ◌≤◌, ◌≢◌, ◌==◌, refl, ap, arith, Bool, cond, List, [], ◌∷◌, length, set, get_or, eq-eqb}
+use Rattle.circle_run.proofs.Prelude.{ne_eqb, sum_by, flat_map, range_with_len, sum_by-cons, sum_by-append, dite, ℕ_discrete}
 
 module _ {X : Type 0} where
   -- also at a place past the end, where the new element counts as much as the one that is read there

@@ -1,32 +1,14 @@
 -- What a rank counts and keeps of progress, turn by turn.
-use Rattle.std.proofs.Common.{◌≡◌, ◌≢◌, ℕ, ◌+◌, ◌<◌, ◌≤◌, refl, sym, subst, ap, ◌∙◌, arith, Bool, true, false, List, [], ◌∷◌, ◌++◌}
-use Rattle.std.proofs.Common.{length, Option, None}
-use mathlib.Core.Logic.{dite}
-use native.Mathlib.Decide.{dec_le}
-use Rattle.post_board.specs.Shown.{Shown, is_served}
-use Rattle.post_board.specs.Told.{Told}
-use Rattle.sum_tree.specs.Shown.{SumShown, IsLeaf}
-use Rattle.circle_run.specs.Balance.{Log}
-use Rattle.circle_run.specs.Progress.{Rises, Thousands, newest, Keeps, KeptOf, Progress, Counts}
-use Rattle.circle_run.specs.Ranks.{DoesAll, side}
-use Rattle.circle_run.specs.Private.Steps.{Came}
-use Rattle.circle_run.specs.Ready.{Ready, SumsReady, Turned}
-use Rattle.circle_run.specs.Turns.{IsTurn}
-use Rattle.circle_run.specs.Choices.{is_due, is_done}
-use Rattle.circle_run.specs.Private.Steps.{turn_of, tallied}
-use Rattle.circle_run.specs.Private.Steps.{Works}
-use Rattle.circle_run.specs.declared.steps.Did.{Did}
-use Rattle.circle_run.specs.declared.steps.Did.TheVariants.{Handled, Acted, Waited, Stopped}
-use Rattle.circle_run.specs.declared.books.Book.{Book}
-use Rattle.circle_run.specs.declared.settings.Options.{Options}
-use Rattle.circle_run.specs.declared.ranks.Turn.{Turn}
-use Rattle.circle_run.specs.declared.ranks.Rank.{Rank}
+use Rattle.circle_run.proofs.Prelude.{◌≡◌, ◌≢◌, ℕ, ◌+◌, ◌<◌, ◌≤◌, refl, sym, subst, ap, ◌∙◌, arith, Bool, true, false, List, [], ◌∷◌, ◌++◌, length, Option}
+use Rattle.circle_run.proofs.Prelude.{None, dite, dec_le, Shown, is_served, Told, SumShown, IsLeaf, Log, Rises, Thousands, newest, Keeps, KeptOf, Progress}
+use Rattle.circle_run.proofs.Prelude.{Counts, DoesAll, Came, Ready, SumsReady, Turned, IsTurn, is_due, is_done, turn_of, tallied, Works, Did, Handled, Acted}
+use Rattle.circle_run.proofs.Prelude.{Waited, Stopped, Book, Options, Turn, Rank, false_from_ne_true}
+use Rattle.circle_run.specs.Ranks.{side}
 use Rattle.circle_run.proofs.Numbers.{newest_push, rises_push, thousands_push}
 use Rattle.circle_run.proofs.Asked.{true_not_false}
 use Rattle.circle_run.proofs.Stepped.{kept_none, side_as}
 use Rattle.circle_run.proofs.Bounding.{bounded_as}
 use Rattle.circle_run.proofs.Choosing.{chooses_as}
-use Rattle.std.proofs.lemmas.Bool.{false_from_ne_true}
 
 -- a word that rose is kept where it is far enough above the last number
 pub keeps_more : (numbers numbers' : List ℕ) (s s' : SumShown) → s'.n ≡ s.n → Keeps numbers s.word s → s.word ≤ s'.word

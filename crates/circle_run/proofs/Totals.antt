@@ -1,26 +1,14 @@
 -- A run of moves is balanced, and what was given in it was taken or lies in a mailbox.
-use Rattle.std.proofs.Common.{◌≡◌, ℕ, zero, suc, ◌+◌, ◌%◌, ◌<◌, ◌≤◌, ◌==◌, ⊎_elim, refl, sym, subst, ap, ◌∙◌, arith, Bool, true, false, cond, List}
-use Rattle.std.proofs.Common.{[], ◌∷◌, ◌++◌, length, length-set, set, get_or, mul-zero, append-nil}
-use Rattle.std.specs.List.{sum_by, flat_map, range_with_len}
-use Rattle.std.proofs.Math.Nat.{mod-lt}
-use Rattle.std.proofs.lemmas.Bool.{cases_lt}
-use Rattle.std.proofs.lemmas.List.{get_or_past}
-use Rattle.std.proofs.lemmas.List.Folds.{fold-map, sum_by-replicate}
-use Rattle.std.proofs.lemmas.List.Sums.{sum_by-append, sum_by-cons}
-use Rattle.post_board.specs.Shown.{Strings}
-use Rattle.post_board.specs.Told.{Mail, vacant, asked, full, empty, Place, place, no_place, is_full}
-use Rattle.post_board.specs.Calls.{NoneOnTheWay}
+use Rattle.circle_run.proofs.Prelude.{◌≡◌, ℕ, zero, suc, ◌+◌, ◌%◌, ◌<◌, ◌≤◌, ◌==◌, ⊎_elim, refl, sym, subst, ap, ◌∙◌, arith, Bool, true, false, cond, List, []}
+use Rattle.circle_run.proofs.Prelude.{◌∷◌, ◌++◌, length, length-set, set, get_or, mul-zero, append-nil, sum_by, flat_map, range_with_len, mod-lt, cases_lt}
+use Rattle.circle_run.proofs.Prelude.{get_or_past, fold-map, sum_by-replicate, sum_by-append, sum_by-cons, Strings, Mail, vacant, asked, full, empty, Place}
+use Rattle.circle_run.proofs.Prelude.{place, no_place, is_full, NoneOnTheWay, Balanced, Move, served, RankSide, Stage, no_side, rank_side, Plays, dealt_from}
+use Rattle.circle_run.proofs.Prelude.{new_place, new_told, begun, batch_in, all_queued, all_mailed, all_logged, MovesAreBalanced, AllIsHandled, handled_in}
+use Rattle.circle_run.proofs.Prelude.{given_in, taken_in, moves_of, of_all, GivenIsTakenOrMailed, Options, if_zero}
 use Rattle.circle_run.specs.Balance as balance
-use Rattle.circle_run.specs.Balance.{Balanced}
-use Rattle.circle_run.specs.Moves.{Move, served}
-use Rattle.circle_run.specs.Stages.{RankSide, Stage, no_side, rank_side, Plays, dealt_from, new_place, new_told, begun}
-use Rattle.circle_run.specs.Waiting.{batch_in, all_queued, all_mailed, all_logged, MovesAreBalanced, AllIsHandled}
-use Rattle.circle_run.specs.Shares.{handled_in, given_in, taken_in, moves_of, of_all, GivenIsTakenOrMailed}
-use Rattle.circle_run.specs.declared.settings.Options.{Options}
 use Rattle.circle_run.proofs.Begun.{new_side, ranks_begun, places_begun}
 use Rattle.circle_run.proofs.Sums.{sum_by-set, sum_by-flat_map, sum_by-same, sum_by-both, sum_by-ones, sum_by-at_one}
 use Rattle.circle_run.proofs.Flows.{mailed, Moved, moved}
-use Rattle.post_board.proofs.SeatSteps.{if_zero}
 
 abbrev Weight : Type 0
 Weight = List ℕ → ℕ

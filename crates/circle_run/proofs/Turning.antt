@@ -1,29 +1,11 @@
 -- What a turn of a rank is: moves of which the last but for a halt may handle a string, with an event save where the rank waits or has seen the end.
-use Rattle.std.proofs.Common.{◌≡◌, ◌≢◌, ℕ, ◌⊎◌, inl, inr, ⊎_elim, ◌||◌, refl, sym, subst, ap, ◌∙◌, arith, Bool, true, false, List}
-use Rattle.std.proofs.Common.{[], ◌∷◌, ◌++◌, map, length}
-use Rattle.std.proofs.Common.{length-append, Option, Some, None}
-use Rattle.std.proofs.lemmas.List.{length-map}
-use Rattle.std.specs.List.{flat_map}
-use Rattle.ring_core.specs.declared.events.Event.{Event}
-use Rattle.ring_core.specs.declared.events.Event.TheVariants.{Handle, TakeNone, SeeOver}
-use Rattle.post_board.specs.Shown.{Strings, Shown}
-use Rattle.post_board.specs.Told.{Told, place, is_stopped}
-use Rattle.post_board.specs.Deeds.{event_of, halt, TellsLate}
-use Rattle.post_board.specs.Calls.{AgreesIfTold}
-use Rattle.sum_tree.specs.Shown.{SumShown}
-use Rattle.circle_run.specs.Balance.{Log}
-use Rattle.circle_run.specs.Moves.{Move, served, noted, Side, answer_of, events_of}
-use Rattle.circle_run.specs.Fair.{MayFollow, HandlesLast, is_waiting}
-use Rattle.circle_run.specs.Ranks.{DoesAll, side, Knows}
-use Rattle.circle_run.specs.Ready.{Ready, Turned}
-use Rattle.circle_run.specs.Turns.{IsAct, Worked, MayHalt, Waits, IsTurn}
-use Rattle.circle_run.specs.Choices.{is_done, halt_if}
-use Rattle.circle_run.specs.Hosts.{MayIdleIfTold, Took}
-use Rattle.circle_run.specs.declared.steps.Did.TheVariants.{Handled, Acted, Waited, Stopped}
-use Rattle.circle_run.specs.declared.settings.Options.{Options}
-use Rattle.circle_run.specs.declared.ranks.Turn.{Turn}
+use Rattle.circle_run.proofs.Prelude.{◌≡◌, ◌≢◌, ℕ, ◌⊎◌, inl, inr, ⊎_elim, ◌||◌, refl, sym, subst, ap, ◌∙◌, arith, Bool, true, false, List, [], ◌∷◌, ◌++◌, map}
+use Rattle.circle_run.proofs.Prelude.{length, length-append, Option, Some, None, length-map, flat_map, Event, Handle, TakeNone, SeeOver, Strings, Shown, Told}
+use Rattle.circle_run.proofs.Prelude.{place, is_stopped, event_of, halt, TellsLate, AgreesIfTold, SumShown, Log, Move, served, noted, Side, answer_of}
+use Rattle.circle_run.proofs.Prelude.{events_of, MayFollow, HandlesLast, is_waiting, DoesAll, Knows, Ready, Turned, IsAct, Worked, MayHalt, Waits, IsTurn}
+use Rattle.circle_run.proofs.Prelude.{is_done, halt_if, MayIdleIfTold, Took, Handled, Acted, Waited, Stopped, Options, Turn, Rank}
+use Rattle.circle_run.specs.Ranks.{side}
 use Rattle.circle_run.specs.declared.ranks.Turn.TheVariants.{Went as TurnWent, Waited as TurnWaited, Stopped as TurnStopped, Ended as TurnEnded}
-use Rattle.circle_run.specs.declared.ranks.Rank.{Rank}
 use Rattle.circle_run.proofs.Asked.{true_not_false}
 use Rattle.circle_run.proofs.Playing.{nothing}
 

@@ -1,11 +1,6 @@
 -- Sums over the numbers mod_below a number.
-use Rattle.std.proofs.Common.{◌≡◌, ℕ, zero, suc, ◌+◌, ◌%◌, ◌==◌, ◌<◌, Bool, true, false, cond, List, [], ◌∷◌, length, get_or, refl, sym, ap, ◌∙◌, arith}
-use Rattle.std.specs.List.{sum_by, flat_map}
-use Rattle.std.proofs.lemmas.Bool.Decides.{nat_tests}
-use Rattle.std.proofs.lemmas.List.Sums.{sum_by-cons, sum_by-append}
-use Rattle.post_board.specs.Shown.{Strings}
-use Rattle.circle_run.specs.Stages.{dealt_from}
-use Rattle.std.proofs.lemmas.Nat.{mod_below}
+use Rattle.circle_run.proofs.Prelude.{◌≡◌, ℕ, zero, suc, ◌+◌, ◌%◌, ◌==◌, ◌<◌, Bool, true, false, cond, List, [], ◌∷◌, length, get_or, refl, sym, ap, ◌∙◌, arith}
+use Rattle.circle_run.proofs.Prelude.{sum_by, flat_map, nat_tests, sum_by-cons, sum_by-append, Strings, dealt_from, mod_below}
 
 abbrev pub upto : (ℕ → ℕ) → ℕ → ℕ
 upto f zero = 0

@@ -1,37 +1,15 @@
 -- A whole run over a board that tells nothing: how it begins, and what it leaves.
-use Rattle.std.proofs.Common.{◌≡◌, ℕ, ◌<◌, ◌≤◌, refl, sym, subst, ap, ◌∙◌, arith, true, false, List, [], ◌∷◌, map, length, get_or, Option, Some, None, Vec}
-use Rattle.std.proofs.lemmas.List.{length-map, get_or-map, get_or_default}
-use Rattle.std.proofs.lemmas.List.FromFn.{get_or-map-range_with_len}
-use Rattle.std.proofs.lemmas.List.Elements.{Contains-get_or}
-use Rattle.std.proofs.lemmas.List.Folds.{flat_map-map}
-use Rattle.std.proofs.lemmas.List.Sums.{sum_by-cons}
-use Rattle.std.specs.List.{flat_map, range_with_len, sum_by}
-use Rattle.rank_queue.specs.Shares.{generator_of}
-use Rattle.post_board.specs.Shown.{Strings, Shown, Batches}
-use Rattle.post_board.specs.Fresh.{fresh, AllFresh}
-use Rattle.post_board.specs.Calls.{Even, AllEven, ByNumber as SeatsByNumber, Halters}
-use Rattle.post_board.specs.BoardSeats.{unused}
-use Rattle.sum_tree.specs.Shown.{SumShown, ByNumber as SumsByNumber}
-use Rattle.sum_tree.specs.Plain.{fresh as fresh_sums}
-use Rattle.circle_run.specs.Balance.{Log, Balanced}
-use Rattle.circle_run.specs.Moves.{Move, Side, events_of}
-use Rattle.circle_run.specs.Books.{counted}
-use Rattle.circle_run.specs.ByRank.{nothing_done, RankPlayed, PlayedApart}
-use Rattle.circle_run.specs.Stages.{dealt_to}
-use Rattle.circle_run.specs.Ranks.{DoesAll}
-use Rattle.circle_run.specs.Hosts.{NoneLost, Alone, lone_side}
-use Rattle.circle_run.specs.Private.Outcomes.{AreNew}
-use Rattle.circle_run.specs.declared.settings.Options.{Options}
-use Rattle.circle_run.specs.declared.ranks.Rank.{Rank}
-use Rattle.std.proofs.lemmas.Simd.{map-map}
+use Rattle.circle_run.proofs.Prelude.{◌≡◌, ℕ, ◌<◌, ◌≤◌, refl, sym, subst, ap, ◌∙◌, arith, true, false, List, [], ◌∷◌, map, length, get_or, Option, Some, None}
+use Rattle.circle_run.proofs.Prelude.{Vec, length-map, get_or-map, get_or_default, get_or-map-range_with_len, Contains-get_or, flat_map-map, sum_by-cons}
+use Rattle.circle_run.proofs.Prelude.{flat_map, range_with_len, sum_by, generator_of, Strings, Shown, Batches, AllFresh, Even, AllEven, Halters, unused}
+use Rattle.circle_run.proofs.Prelude.{SumShown, Log, Balanced, Move, Side, events_of, counted, nothing_done, RankPlayed, PlayedApart, dealt_to, DoesAll}
+use Rattle.circle_run.proofs.Prelude.{NoneLost, Alone, lone_side, AreNew, Options, Rank, map-map, all_left, HostsAreBalanced, handled_in, given_in, taken_in}
+use Rattle.circle_run.proofs.Prelude.{IsProgress, IsOutcome, Share, Finished, RankRan, AllRan, InPlace, IsHost, Starting, Ending}
+use Rattle.post_board.specs.Fresh.{fresh}
 use Rattle.std.specs.Prelude.{min, ◌^◌, ◌-◌}
-use Rattle.circle_run.specs.Left.{all_left}
-use Rattle.circle_run.specs.Apart.{HostsAreBalanced}
-use Rattle.circle_run.specs.Shares.{handled_in, given_in, taken_in}
-use Rattle.circle_run.specs.Traced.{IsProgress}
-use Rattle.circle_run.specs.Private.Outcomes.{IsOutcome}
-use Rattle.circle_run.specs.declared.outcomes.Share.{Share}
-use Rattle.circle_run.specs.declared.outcomes.Finished.{Finished}
+use Rattle.post_board.specs.Calls.{ByNumber as SeatsByNumber}
+use Rattle.sum_tree.specs.Shown.{ByNumber as SumsByNumber}
+use Rattle.sum_tree.specs.Plain.{fresh as fresh_sums}
 use Rattle.circle_run.proofs.Columns.{job_of, queue_of, share_of}
 use Rattle.circle_run.proofs.Maps.{map_same, sum_by-map, some_of, sum_same, capped_sum}
 use Rattle.circle_run.proofs.Counting.{capped, share_alone}
@@ -40,9 +18,6 @@ use Rattle.circle_run.proofs.Final.{are_all, all_ended}
 use Rattle.circle_run.proofs.Finishing.{progressed, seats_done, sums_done}
 use Rattle.circle_run.proofs.Leaving.{Gathered, none_left, within, left_by}
 use Rattle.circle_run.proofs.New.{ready_at_first}
-use Rattle.circle_run.specs.Apart.{RankRan, AllRan, HostsAreBalanced}
-use Rattle.circle_run.specs.Private.Away.{InPlace, IsHost}
-use Rattle.circle_run.specs.Private.Parting.{Starting, Ending}
 
 module _ {J S T : Type 0} where
   pub whole_host : (whole : List (Rank J S T)) → InPlace whole → IsHost whole whole

@@ -1,17 +1,8 @@
 -- What a rank does that is to halt.
-use Rattle.std.proofs.Common.{◌≡◌, ◌≢◌, ℕ, ◌⊎◌, inl, inr, refl, sym, subst, ap, ◌∙◌, Bool, true, false, List, map, Option, Some, None}
-use Rattle.std.specs.Prelude.{is_some, not}
-use Rattle.post_board.specs.Shown.{Shown}
-use Rattle.post_board.specs.Told.{Told}
-use Rattle.post_board.specs.Deeds.{halt, TellsLate}
-use Rattle.circle_run.specs.Balance.{Log}
-use Rattle.circle_run.specs.Moves.{Move, answer_of, Side, TellsAll, IsHalted}
-use Rattle.circle_run.specs.Choices.{to_look, Closes}
-use Rattle.circle_run.specs.Ranks.{DoesAll, side, Went}
-use Rattle.circle_run.specs.Private.Steps.{Came, Served, Halts, Follows, Ends, WoundUp, with_service}
-use Rattle.circle_run.specs.declared.steps.Did.{Did}
-use Rattle.circle_run.specs.declared.steps.Did.TheVariants.{Handled}
-use Rattle.circle_run.specs.declared.ranks.Rank.{Rank}
+use Rattle.circle_run.proofs.Prelude.{◌≡◌, ◌≢◌, ℕ, ◌⊎◌, inl, inr, refl, sym, subst, ap, ◌∙◌, Bool, true, false, List, map, Option, Some, None, is_some, not}
+use Rattle.circle_run.proofs.Prelude.{Shown, Told, halt, TellsLate, Log, Move, answer_of, Side, TellsAll, IsHalted, to_look, Closes, DoesAll, Went, Came}
+use Rattle.circle_run.proofs.Prelude.{Served, Halts, Follows, Ends, WoundUp, with_service, Did, Handled, Rank}
+use Rattle.circle_run.specs.Ranks.{side}
 use Rattle.circle_run.proofs.Choosing.{Opened, opened, wound}
 use Rattle.circle_run.proofs.Stepped.{came_then, came_as}
 use Rattle.circle_run.proofs.Stopping.{halted_on}

@@ -1,25 +1,10 @@
 -- What is picked of two lists, joined in path order.
-use Rattle.std.proofs.Common.{◌≡◌, ℕ, ◌+◌, ◌<◌, ◌≤◌, Bool, true, false, not, ◌&&◌, ◌||◌, List, [], ◌∷◌, ◌++◌, length, cond, filter, get_or, refl, ap}
-use Rattle.std.proofs.Common.{sym, subst, ◌∙◌, arith}
-use Rattle.std.specs.List.{AllByRecursion, list_any, sum_by}
-use Rattle.std.specs.List.Sorted.{IsStrictlySortedBy, IsPermutation, IsSortedByKey}
-use Rattle.std.specs.Ordering.{is_lt, is_eq, ordering_reverse}
-use Rattle.std.specs.Prelude.{nat_eq}
-use Rattle.std.specs.Cmp.Lexicographic.{pointwise, bytes_decides}
-use Rattle.std.specs.declared.cmp.Ordering.TheVariants.{Less, Equal, Greater}
-use Rattle.std.proofs.Math.ListN.{get_or-map}
-use Rattle.std.proofs.lemmas.Bool.{false≢true}
-use Rattle.std.proofs.lemmas.List.{length-map}
-use Rattle.std.proofs.lemmas.List.Sums.{sum_by-cons, sum_by-append, sum_by_more, sum_by_more_le}
-use Rattle.std.proofs.lemmas.List.Sorted.{sum_by-IsPermutation}
-use Rattle.std.proofs.lemmas.Map.Keys.{sorted_from_all_adjacent}
-use Rattle.path_text.specs.Order.{path_cmp}
-use Rattle.path_text.specs.Total.{path_cmp_total, path_cmp_ties, path_cmp_same}
-use Rattle.entry_pages.specs.declared.entries.Entry.{Entry}
-use Rattle.flat_list.specs.Spelling.{paths}
-use Rattle.compare_report.specs.Outputs.{picks, is_new, IsJoined}
-use Rattle.compare_report.specs.PrivatePicks.{picks_but}
-use Rattle.run_entries.proofs.Chosen.{order_kept}
+use Rattle.compare_report.proofs.Prelude.{◌≡◌, ℕ, ◌+◌, ◌<◌, ◌≤◌, Bool, true, false, not, ◌&&◌, ◌||◌, List, [], ◌∷◌, ◌++◌, length, cond, filter, get_or, refl}
+use Rattle.compare_report.proofs.Prelude.{ap, sym, subst, ◌∙◌, arith, AllByRecursion, list_any, sum_by, IsPermutation, IsSortedByKey, is_lt, is_eq}
+use Rattle.compare_report.proofs.Prelude.{ordering_reverse, nat_eq, pointwise, bytes_decides, Less, Equal, Greater, get_or-map, false≢true, length-map}
+use Rattle.compare_report.proofs.Prelude.{sum_by-cons, sum_by-append, sum_by_more, sum_by_more_le, sum_by-IsPermutation, sorted_from_all_adjacent, path_cmp}
+use Rattle.compare_report.proofs.Prelude.{path_cmp_total, path_cmp_ties, path_cmp_same, Entry, paths, picks, is_new, IsJoined, picks_but, order_kept}
+use Rattle.std.specs.List.Sorted.{IsStrictlySortedBy}
 
 -- how often a path is that of an entry
 abbrev one : List ℕ → List ℕ → ℕ

@@ -1,20 +1,9 @@
 -- What is given of rows that ascend, and what is joined of entries that have their shapes.
-use Rattle.std.proofs.Common.{◌≡◌, ⊎_elim, ℕ, ◌+◌, Bool, true, false, List, [], ◌∷◌, ◌++◌, map, filter, take, cond, Some, refl, sym, ap, ◌∙◌, add-one}
-use Rattle.std.specs.Prelude.{slice_get, Result, Ok, Err, IfOk}
-use Rattle.std.specs.List.{All, AllByRecursion, AllZip}
+use Rattle.compare_report.proofs.Prelude.{◌≡◌, ⊎_elim, ℕ, ◌+◌, Bool, true, false, List, [], ◌∷◌, ◌++◌, map, filter, take, cond, Some, refl, sym, ap, ◌∙◌}
+use Rattle.compare_report.proofs.Prelude.{add-one, slice_get, Result, Ok, Err, IfOk, All, AllByRecursion, AllZip, Less, take-suc, map-append, All-append}
+use Rattle.compare_report.proofs.Prelude.{All-filter, filter-append, slice_get_cases, All-permutation, path_cmp, Entry, Condition, Row, is_given, given_paths}
+use Rattle.compare_report.proofs.Prelude.{is_new, IsJoined, some_same, none_some}
 use Rattle.std.specs.List.Sorted.{IsStrictlySortedBy}
-use Rattle.std.specs.declared.cmp.Ordering.TheVariants.{Less}
-use Rattle.std.proofs.Math.Seq.{take-suc}
-use Rattle.std.proofs.lemmas.List.{map-append}
-use Rattle.std.proofs.lemmas.List.Elements.{All-append, All-filter, filter-append}
-use Rattle.std.proofs.lemmas.Option.{slice_get_cases}
-use Rattle.std.proofs.lemmas.List.Sorted.{All-permutation}
-use Rattle.path_text.specs.Order.{path_cmp}
-use Rattle.entry_pages.specs.declared.entries.Entry.{Entry}
-use Rattle.tree_cmp.specs.declared.conditions.Condition.{Condition}
-use Rattle.tree_cmp.specs.declared.rows.Row.{Row}
-use Rattle.compare_report.specs.Outputs.{is_given, given_paths, is_new, IsJoined}
-use Rattle.tree_cmp.proofs.Passing.{some_same, none_some}
 
 taken_by : (rows : List Row) (k : ℕ) (row : Row) → slice_get rows k ≡ Some row → take (k + 1) rows ≡ take k rows ++ row ∷ []
 taken_by rows k row at =

@@ -1,3 +1,4 @@
+mod Prelude
 pub mod Both
 pub mod Chosen
 pub mod Passed

@@ -1,21 +1,9 @@
 -- A search through ascending paths.
-use Rattle.std.proofs.Common.{◌≡◌, ℕ, ◌+◌, ◌<◌, ◌≤◌, zero, suc, Bool, true, false, ◌||◌, List, [], ◌∷◌, length, take, drop, get_or, refl, ap}
-use Rattle.std.proofs.Common.{sym, ◌∙◌, subst, arith, add-one}
-use Rattle.std.specs.List.{All, AllByRecursion, list_any}
+use Rattle.compare_report.proofs.Prelude.{◌≡◌, ℕ, ◌+◌, ◌<◌, ◌≤◌, zero, suc, Bool, true, false, ◌||◌, List, [], ◌∷◌, length, take, drop, get_or, refl, ap, sym}
+use Rattle.compare_report.proofs.Prelude.{◌∙◌, subst, arith, add-one, All, AllByRecursion, list_any, nat_eq, is_eq, ordering_reverse, pointwise, bytes_decides}
+use Rattle.compare_report.proofs.Prelude.{Ordering, Less, Equal, Greater, drop-cons, take-suc, take-append-drop, drop_all, list_any-append, recursion_from_All}
+use Rattle.compare_report.proofs.Prelude.{All-push, path_cmp, path_cmp_total, path_cmp_ties, path_cmp_same, IsPassed, higher}
 use Rattle.std.specs.List.Sorted.{IsStrictlySortedBy}
-use Rattle.std.specs.Prelude.{nat_eq}
-use Rattle.std.specs.Ordering.{is_eq, ordering_reverse}
-use Rattle.std.specs.Cmp.Lexicographic.{pointwise, bytes_decides}
-use Rattle.std.specs.declared.cmp.Ordering.{Ordering}
-use Rattle.std.specs.declared.cmp.Ordering.TheVariants.{Less, Equal, Greater}
-use Rattle.std.proofs.Math.Seq.{drop-cons, take-suc}
-use Rattle.std.proofs.lemmas.List.{take-append-drop, drop_all}
-use Rattle.std.proofs.lemmas.List.Folds.{list_any-append}
-use Rattle.std.proofs.lemmas.List.Elements.{recursion_from_All, All-push}
-use Rattle.path_text.specs.Order.{path_cmp}
-use Rattle.path_text.specs.Total.{path_cmp_total, path_cmp_ties, path_cmp_same}
-use Rattle.compare_report.specs.PrivatePicks.{IsPassed}
-use Rattle.tree_walk.proofs.Same.{higher}
 
 abbrev same : List ℕ → List ℕ → Bool
 same = pointwise nat_eq

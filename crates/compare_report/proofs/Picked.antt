@@ -1,21 +1,9 @@
 -- One pass over the entries of a list.
-use Rattle.std.proofs.Common.{◌≡◌, ⊎_elim, ℕ, ◌+◌, ◌-◌, ◌<◌, Bool, List, [], ◌∷◌, ◌++◌, length, take, get_or, cond}
-use Rattle.std.proofs.Common.{true, filter, Some, ap, sym, ◌∙◌, subst, arith, add-one, append_assoc}
-use Rattle.std.specs.Prelude.{slice_get, IsTrue}
-use Rattle.std.specs.List.{All}
-use Rattle.std.specs.List.Sorted.{IsStrictlySortedBy}
-use Rattle.std.specs.declared.cmp.Ordering.TheVariants.{Less}
-use Rattle.std.proofs.Math.Seq.{take-suc}
-use Rattle.std.proofs.lemmas.List.{get_or_default}
-use Rattle.std.proofs.lemmas.List.Elements.{filter-append}
-use Rattle.std.proofs.lemmas.Option.{slice_get_cases}
-use Rattle.path_text.specs.Graft.{below_of, BelowKeepsOrder}
-use Rattle.path_text.specs.Order.{path_cmp, is_within}
-use Rattle.entry_pages.specs.declared.entries.Entry.{Entry}
-use Rattle.flat_list.specs.Spelling.{paths}
-use Rattle.compare_report.specs.PrivatePicks.{IsPassed, IsNext}
+use Rattle.compare_report.proofs.Prelude.{◌≡◌, ⊎_elim, ℕ, ◌+◌, ◌-◌, ◌<◌, Bool, List, [], ◌∷◌, ◌++◌, length, take, get_or, cond, true, filter, Some, ap, sym}
+use Rattle.compare_report.proofs.Prelude.{◌∙◌, subst, arith, add-one, append_assoc, slice_get, IsTrue, All, IsStrictlySortedBy, Less, take-suc, get_or_default}
+use Rattle.compare_report.proofs.Prelude.{filter-append, slice_get_cases, below_of, BelowKeepsOrder, path_cmp, is_within, Entry, paths, IsPassed, IsNext}
+use Rattle.compare_report.proofs.Prelude.{sorted_next, some_same, none_some}
 use Rattle.compare_report.proofs.Passed.{passed_later}
-use Rattle.tree_cmp.proofs.Passing.{sorted_next, some_same, none_some}
 
 -- the entry that a cursor came to
 pub record IsHere (side : List Entry) (k : ℕ) (e : Entry) (cursor : List Entry × ℕ) : Type 0 where

@@ -1,25 +1,7 @@
 -- What the steps of dcmp told, as its own words say it.
-use Rattle.std.proofs.Common.{◌≡◌, ℕ, ◌≤◌, List, [], ◌∷◌, map, Option, Some, None, IfSome, length, refl, ap, sym, subst, inr}
-use Rattle.std.specs.Option.{is_some}
-use Rattle.outside.specs.Count.{RoseBy}
-use Rattle.outside.specs.Tree.{Files}
-use Rattle.entry_pages.specs.declared.entries.Entry.{Entry}
-use Rattle.tree_cmp.specs.declared.rows.Row.{Row}
-use Rattle.tree_cmp.specs.Rows.{Findings, IsComparison}
-use Rattle.tree_cmp.specs.Sides.{side}
-use Rattle.tool_words.specs.declared.commands.Want.{Want}
-use Rattle.tool_words.specs.Asked.{CompareAsked}
-use Rattle.run_report.specs.declared.stops.Stop.{Stop}
-use Rattle.run_report.specs.Sides.{Side, side_with}
-use Rattle.run_entries.specs.declared.both.Sides.{Sides}
-use Rattle.run_entries.specs.declared.saving.Output.{Output}
-use Rattle.run_entries.specs.Both.{WalksBoth}
-use Rattle.run_entries.specs.Saving.{SameButAll, SameButOutputs}
-use Rattle.run_entries.specs.Stopping.{StopsSaving}
-use Rattle.compare_report.specs.declared.comparing.Prepared.{Prepared}
-use Rattle.compare_report.specs.Comparing.{Compares, LeavesCompare, StopsCompare}
-use Rattle.compare_report.specs.Outputs.{AreOutputs}
-use Rattle.compare_report.specs.PrivateSteps.{IsPrepared}
+use Rattle.compare_report.proofs.Prelude.{◌≡◌, ℕ, ◌≤◌, List, [], ◌∷◌, map, Option, Some, None, IfSome, length, refl, ap, sym, subst, inr, is_some, RoseBy}
+use Rattle.compare_report.proofs.Prelude.{Files, Entry, Row, Findings, IsComparison, side, Want, CompareAsked, Stop, Side, side_with, Sides, Output, WalksBoth}
+use Rattle.compare_report.proofs.Prelude.{SameButAll, SameButOutputs, StopsSaving, Prepared, Compares, LeavesCompare, StopsCompare, AreOutputs, IsPrepared}
 
 -- both sides were walked, and then compared
 pub record Steps (asked : CompareAsked) (sides : Sides) (found : Findings) (before walked compared : Side) : Type 0 where

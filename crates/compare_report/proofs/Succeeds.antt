@@ -1,27 +1,11 @@
 -- When dcmp succeeds.
-use Rattle.std.proofs.Common.{◌≡◌, ⊎_elim, ℕ, ◌≤◌, true, false, List, [], ◌∷◌, ◌++◌, length, IfSome, refl, ap, subst, arith, ◌∙◌}
-use Rattle.std.specs.List.{All, AllByRecursion}
-use Rattle.std.proofs.lemmas.List.Elements.{All-from_recursion, recursion_from_All}
-use Rattle.outside.specs.Count.{RoseBy, StoodStill}
-use Rattle.outside.specs.Tree.{Files}
-use Rattle.outside.specs.Whole.{can_save}
-use Rattle.entry_pages.specs.declared.entries.Entry.{Entry}
-use Rattle.tree_cmp.specs.declared.rows.Missed.{Missed}
-use Rattle.tree_cmp.specs.declared.rows.Row.{Row}
+use Rattle.compare_report.proofs.Prelude.{◌≡◌, ⊎_elim, ℕ, ◌≤◌, true, false, List, [], ◌∷◌, ◌++◌, length, IfSome, refl, ap, subst, arith, ◌∙◌, All}
+use Rattle.compare_report.proofs.Prelude.{AllByRecursion, All-from_recursion, recursion_from_All, RoseBy, StoodStill, Files, can_save, Entry, Missed, Row}
+use Rattle.compare_report.proofs.Prelude.{AreInOrder, NothingToOrder, Want, CompareAsked, roots, Valid, WithinCompare, Report, Stop, Side, side_with, Output}
+use Rattle.compare_report.proofs.Prelude.{IsFineSide, FineWalksNameNothing, FineWalksStopForMemory, FinePlacesStopForMemory, missed_notes, ReportsCompare}
+use Rattle.compare_report.proofs.Prelude.{StopsCompare, FineCompare, FineCompareSucceeds, AreOutputs}
 use Rattle.tool_text.specs.declared.noting.Why.TheVariants as why
-use Rattle.tool_text.specs.NoteOrder.{AreInOrder, NothingToOrder}
-use Rattle.tool_words.specs.declared.commands.Want.{Want}
-use Rattle.tool_words.specs.Asked.{CompareAsked, roots}
-use Rattle.tool_words.specs.Limits.{Valid, WithinCompare}
-use Rattle.run_report.specs.declared.reports.Report.{Report}
-use Rattle.run_report.specs.declared.stops.Stop.{Stop}
 use Rattle.run_report.specs.declared.stops.Stop.TheVariants as stop
-use Rattle.run_report.specs.Sides.{Side, side_with}
-use Rattle.run_entries.specs.declared.saving.Output.{Output}
-use Rattle.run_entries.specs.Fine.{IsFineSide, FineWalksNameNothing, FineWalksStopForMemory, FinePlacesStopForMemory}
-use Rattle.compare_report.specs.Comparing.{missed_notes, ReportsCompare, StopsCompare, FineCompare}
-use Rattle.compare_report.specs.Laws.{FineCompareSucceeds}
-use Rattle.compare_report.specs.Outputs.{AreOutputs}
 
 -- a count that stood still did so in each part
 stood_between : (old from until new : ℕ) → old ≤ from → from ≤ until → until ≤ new → StoodStill old new → StoodStill from until

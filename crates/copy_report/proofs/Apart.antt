@@ -1,19 +1,8 @@
 -- What stands apart: the sources of pairs, and where the paths within them go.
-use Rattle.std.proofs.Common.{◌≡◌, ◌⊎◌, inl, inr, ⊎_elim, ℕ, Bool, true, false, cond, ◌||◌, List, [], ◌∷◌}
-use Rattle.std.proofs.Common.{◌++◌, None, refl, ap, ◌∙◌, sym, subst}
-use Rattle.std.proofs.lemmas.Bool.{false≢true, or_parts}
-use Rattle.std.specs.List.{AllByRecursion, list_any}
-use Rattle.path_text.specs.Path.{refusal, parent_of}
-use Rattle.path_text.specs.Order.{is_under, is_within}
-use Rattle.path_text.specs.Graft.{grafted, below_of}
-use Rattle.path_text.proofs.Carried.{grafted_itself, parent_moves_too}
-use Rattle.path_text.proofs.Parents.{parent_under}
-use Rattle.path_text.proofs.Within.{never_under_itself, same_or_under, under_no_root, under_within, within_up}
-use Rattle.outside.specs.Tree.{is_root}
-use Rattle.tree_copy.specs.Copying.{target_of}
-use Rattle.tree_copy.specs.Placing.{overlap}
-use Rattle.tree_copy.specs.declared.pairs.Pair.{Pair}
-use Rattle.tree_walk.proofs.Standing.{In}
+use Rattle.copy_report.proofs.Prelude.{◌≡◌, ◌⊎◌, inl, inr, ⊎_elim, ℕ, Bool, true, false, cond, ◌||◌, List, [], ◌∷◌, ◌++◌, None, refl, ap, ◌∙◌, sym, subst}
+use Rattle.copy_report.proofs.Prelude.{false≢true, or_parts, AllByRecursion, list_any, refusal, parent_of, is_under, is_within, grafted, below_of}
+use Rattle.copy_report.proofs.Prelude.{grafted_itself, parent_moves_too, parent_under, never_under_itself, same_or_under, under_no_root, under_within}
+use Rattle.copy_report.proofs.Prelude.{within_up, is_root, target_of, overlap, Pair, In}
 
 -- ---- what stands in a list of paths
 

@@ -1,14 +1,6 @@
 -- What is in a root, as the walk says it, is at it or under it, as paths say it.
-use Rattle.std.proofs.Common.{◌≡◌, ⊎_elim, ℕ, true, List, [], ◌∷◌, map, None}
-use Rattle.std.proofs.Common.{subst}
-use Rattle.std.specs.List.{AllByRecursion, list_any}
-use Rattle.std.proofs.lemmas.Bool.{or_left, or_right}
-use Rattle.path_text.specs.Path.{refusal}
-use Rattle.path_text.specs.Order.{is_within}
-use Rattle.path_text.proofs.Fronts.{fronts_within}
-use Rattle.tree_copy.specs.declared.pairs.Pair.{Pair}
-use Rattle.tree_walk.specs.Roots.{is_in}
-use Rattle.tree_walk.proofs.Standing.{In}
+use Rattle.copy_report.proofs.Prelude.{◌≡◌, ⊎_elim, ℕ, true, List, [], ◌∷◌, map, None, subst, AllByRecursion, list_any, or_left, or_right, refusal, is_within}
+use Rattle.copy_report.proofs.Prelude.{fronts_within, Pair, is_in, In}
 
 -- ---- what is in some root is within a source
 

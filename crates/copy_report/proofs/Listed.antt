@@ -1,17 +1,8 @@
 -- Where an entry stands whose directory was listed.
-use Rattle.std.proofs.Common.{◌≡◌, ◌⊎◌, inl, inr, ⊎_elim, ℕ, true, false, cond, ◌||◌, ◌&&◌, List, [], ◌∷◌, map, Option, Some, None, refl, ap, ◌∙◌, sym}
-use Rattle.std.proofs.lemmas.Bool.{false≢true, or_left, or_right, and_parts, or_cases}
-use Rattle.std.specs.Prelude.{is_some, nat_eq}
-use Rattle.std.specs.List.{list_any, filter}
-use Rattle.std.specs.Cmp.Lexicographic.{pointwise, bytes_decides}
+use Rattle.copy_report.proofs.Prelude.{◌≡◌, ◌⊎◌, inl, inr, ⊎_elim, ℕ, true, false, cond, ◌||◌, ◌&&◌, List, [], ◌∷◌, map, Option, Some, None, refl, ap, ◌∙◌, sym}
+use Rattle.copy_report.proofs.Prelude.{false≢true, or_left, or_right, and_parts, or_cases, is_some, nat_eq, list_any, filter, pointwise, bytes_decides, Stat}
+use Rattle.copy_report.proofs.Prelude.{Entry, is_of, target_of, is_target, Pair, has_dir, In}
 use Rattle.outside.specs.declared.trees.Kind.TheVariants as kind
-use Rattle.outside.specs.declared.trees.Stat.{Stat}
-use Rattle.entry_pages.specs.declared.entries.Entry.{Entry}
-use Rattle.entry_pages.specs.Entries.{is_of}
-use Rattle.tree_copy.specs.Copying.{target_of, is_target}
-use Rattle.tree_copy.specs.declared.pairs.Pair.{Pair}
-use Rattle.tree_walk.specs.Told.{has_dir}
-use Rattle.tree_walk.proofs.Standing.{In}
 
 among : (x : List ℕ) (xs : List (List ℕ)) → list_any (pointwise nat_eq x) xs ≡ true → In x xs
 among x [] e = absurd (false≢true e)

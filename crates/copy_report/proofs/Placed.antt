@@ -1,19 +1,9 @@
 -- Targets that were placed, and where they stand.
-use Rattle.std.proofs.Common.{◌≡◌, ◌⊎◌, inl, inr, ⊎_elim, ℕ, ◌+◌, ◌-◌, ◌^◌, ◌<◌, Bool, true, false, cond, ◌||◌, List}
-use Rattle.std.proofs.Common.{map, get_or, min, Option, Some, None, IfSome, Result, Ok, Err, refl, ap, ◌∙◌, sym, subst, arith}
-use Rattle.std.specs.FinMap.{get}
-use Rattle.std.specs.List.{All}
-use Rattle.path_text.specs.Path.{refusal, parent_of}
-use Rattle.outside.specs.Asked.{Asks}
-use Rattle.outside.specs.Count.{RoseBy}
-use Rattle.outside.specs.Tree.{Files, is_dir}
-use Rattle.tree_copy.specs.Placing.{IsCounted, IsPair, IsWhy, PlacedAreApart, PlaceStopped, placed, placed_over}
-use Rattle.tree_copy.specs.declared.pairs.Pair.{Pair}
-use Rattle.tree_copy.specs.declared.pairs.PlaceError.{PlaceError}
+use Rattle.copy_report.proofs.Prelude.{◌≡◌, ◌⊎◌, inl, inr, ⊎_elim, ℕ, ◌+◌, ◌-◌, ◌^◌, ◌<◌, Bool, true, false, cond, ◌||◌, List, map, get_or, min, Option, Some}
+use Rattle.copy_report.proofs.Prelude.{None, IfSome, Result, Ok, Err, refl, ap, ◌∙◌, sym, subst, arith, get, All, refusal, parent_of, Asks, RoseBy, Files}
+use Rattle.copy_report.proofs.Prelude.{is_dir, IsCounted, IsPair, IsWhy, PlacedAreApart, PlaceStopped, placed, placed_over, Pair, PlaceError, Side, Places}
+use Rattle.copy_report.proofs.Prelude.{ArePlaced, StopsPlacing}
 use Rattle.tree_copy.specs.declared.pairs.PlaceError.TheVariants as place
-use Rattle.run_report.specs.Sides.{Side}
-use Rattle.copy_report.specs.Placing.{Places}
-use Rattle.copy_report.specs.PrivateSteps.{ArePlaced, StopsPlacing}
 
 -- ---- what was placed
 

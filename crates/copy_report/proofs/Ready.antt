@@ -1,33 +1,12 @@
 -- What is walked of placed sources can be copied to their targets.
-use Rattle.std.proofs.Common.{◌≡◌, ◌⊎◌, inl, inr, ⊎_elim, ℕ, ◌<◌, true, false, List, [], ◌∷◌, map, length, get_or, Option, Some, None}
-use Rattle.std.proofs.Common.{IfSome, refl, ap, ◌∙◌, sym, subst, arith}
-use Rattle.std.proofs.lemmas.Bool.{false≢true}
-use Rattle.std.proofs.lemmas.List.Elements.{All-filter, All-from_recursion, recursion_from_All}
-use Rattle.std.specs.Prelude.{is_some, nat_eq, ◌||◌}
-use Rattle.std.specs.FinMap.{get}
-use Rattle.std.specs.List.{All, AllByRecursion, Contains, flat_map, list_any}
-use Rattle.std.specs.List.Sorted.{IsStrictlySortedBy}
-use Rattle.std.specs.Cmp.Lexicographic.{pointwise}
-use Rattle.path_text.specs.Order.{path_cmp, is_within}
-use Rattle.path_text.specs.Path.{refusal, parent_of}
-use Rattle.outside.specs.Tree.{Files, Node, IsTree, is_dir, link_at}
-use Rattle.outside.proofs.Names.{all_weaker}
-use Rattle.entry_pages.specs.declared.entries.Entry.{Entry}
-use Rattle.entry_pages.specs.declared.entries.Mark.{Mark}
+use Rattle.copy_report.proofs.Prelude.{◌≡◌, ◌⊎◌, inl, inr, ⊎_elim, ℕ, ◌<◌, true, false, List, [], ◌∷◌, map, length, get_or, Option, Some, None, IfSome, refl}
+use Rattle.copy_report.proofs.Prelude.{ap, ◌∙◌, sym, subst, arith, false≢true, All-filter, All-from_recursion, recursion_from_All, is_some, nat_eq, get, All}
+use Rattle.copy_report.proofs.Prelude.{AllByRecursion, Contains, flat_map, list_any, IsStrictlySortedBy, pointwise, path_cmp, is_within, refusal, parent_of}
+use Rattle.copy_report.proofs.Prelude.{Files, Node, IsTree, is_dir, link_at, all_weaker, Entry, Mark, paths, CanCopy, FitsTree, ends_of, is_target, target_of}
+use Rattle.copy_report.proofs.Prelude.{IsPair, overlap, Pair, is_in_some, EntriesAreTold, EntriesHaveParents, IsTold, has_dir, target_by, answers_in, walk}
+use Rattle.copy_report.proofs.Prelude.{both, In, above, in_list, of_all, Side, Walked, stat_told, ArePlaced}
+use Rattle.std.specs.Prelude.{◌||◌}
 use Rattle.entry_pages.specs.declared.entries.Mark.TheVariants as mark
-use Rattle.flat_list.specs.Spelling.{paths}
-use Rattle.tree_copy.specs.Copying.{CanCopy, FitsTree, ends_of, is_target, target_of}
-use Rattle.tree_copy.specs.Placing.{IsPair, overlap}
-use Rattle.tree_copy.specs.declared.pairs.Pair.{Pair}
-use Rattle.tree_walk.specs.Roots.{is_in_some}
-use Rattle.tree_walk.specs.Told.{EntriesAreTold, EntriesHaveParents, IsTold, has_dir, target_by}
-use Rattle.tree_walk.specs.Walk.{answers_in, walk}
-use Rattle.tree_walk.proofs.Lists.{both}
-use Rattle.tree_walk.proofs.Standing.{In, above, in_list, of_all}
-use Rattle.run_report.specs.Sides.{Side}
-use Rattle.run_entries.specs.Entries.{Walked}
-use Rattle.run_entries.proofs.Sided.{stat_told}
-use Rattle.copy_report.specs.PrivateSteps.{ArePlaced}
 use Rattle.copy_report.proofs.Apart.{in_front, none_under, AreValid, goes}
 use Rattle.copy_report.proofs.Inside.{within_source}
 use Rattle.copy_report.proofs.Listed.{comes, has_target}

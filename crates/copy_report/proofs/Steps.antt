@@ -1,16 +1,7 @@
 -- What the steps of dcp told, as its own words say it.
-use Rattle.std.proofs.Common.{◌≡◌, inr, ℕ, ◌≤◌, List, IfSome, Ok, is_some, length, ap, sym, ◌∙◌, subst}
-use Rattle.std.proofs.lemmas.List.{length-map}
-use Rattle.entry_pages.specs.declared.entries.Entry.{Entry}
-use Rattle.flat_list.specs.Spelling.{max_entries}
-use Rattle.level_work.specs.declared.items.Fate.{Fate}
-use Rattle.tree_copy.specs.Copying.{SameButTargets, treated}
-use Rattle.tree_copy.specs.declared.pairs.Pair.{Pair}
-use Rattle.tool_words.specs.Asked.{CopyAsked}
-use Rattle.run_report.specs.Sides.{Side, side_with}
-use Rattle.run_entries.specs.Entries.{Walked}
-use Rattle.copy_report.specs.Copying.{Copies, LeavesCopy}
-use Rattle.copy_report.specs.Placing.{Places, Surveys}
+use Rattle.copy_report.proofs.Prelude.{◌≡◌, inr, ℕ, ◌≤◌, List, IfSome, Ok, length, ap, sym, ◌∙◌, subst, length-map, Entry, max_entries, Fate, SameButTargets}
+use Rattle.copy_report.proofs.Prelude.{treated, Pair, CopyAsked, Side, side_with, Walked, Copies, LeavesCopy, Places, Surveys}
+use Rattle.std.proofs.Common.{is_some}
 
 -- the look at the destination, after which the targets were placed: it leaves the tree as it was
 pub record Looked (asked : CopyAsked) (before looked : Side) (pairs : List Pair) : Type 0 where

@@ -1,37 +1,14 @@
 -- When dcp succeeds.
-use Rattle.std.proofs.Common.{◌≡◌, ⊎_elim, ℕ, ◌≤◌, false, List, [], ◌++◌, length, Option, Some, None}
-use Rattle.std.proofs.Common.{◌&&◌, get_or, Result, Ok, Err, refl, ap, ◌∙◌, sym, subst, arith}
-use Rattle.std.proofs.lemmas.List.Elements.{All-filter}
-use Rattle.std.specs.Prelude.{is_none, is_some}
-use Rattle.std.specs.FinMap.{get}
-use Rattle.std.specs.List.{All, flat_map}
-use Rattle.path_text.specs.Path.{parent_of}
-use Rattle.outside.specs.Tree.{Body, Files, Node, dir, file, is_dir, kind_of, link, other, text_of}
+use Rattle.copy_report.proofs.Prelude.{◌≡◌, ⊎_elim, ℕ, ◌≤◌, false, List, [], ◌++◌, length, Option, Some, None, ◌&&◌, get_or, Result, Ok, Err, refl, ap, ◌∙◌}
+use Rattle.copy_report.proofs.Prelude.{sym, subst, arith, All-filter, is_none, is_some, get, All, flat_map, parent_of, Body, Files, Node, dir, file, is_dir}
+use Rattle.copy_report.proofs.Prelude.{kind_of, link, other, text_of, Entry, is_kind, Fate, Copied, is_untold, FineEntriesAreCopied, IsFineEntry}
+use Rattle.copy_report.proofs.Prelude.{TargetsAreLong, placed, placed_over, Pair, PlaceError, EntriesAreTold, walk, all_told, entry_of, AreInOrder}
+use Rattle.copy_report.proofs.Prelude.{NothingToOrder, CopyAsked, roots, WithinCopy, Report, Stop, Side, side_with, IsFineSide, DoneNamesNothing}
+use Rattle.copy_report.proofs.Prelude.{FineWalksAreWhole, FineWalksNameNothing, FineWalksStopForMemory, StillCounts, copy_notes, of_told, some_of}
+use Rattle.copy_report.proofs.Prelude.{ReportsCopies, StopsCopy, ReportsCopy, FineCopy, Copies, FineCopySucceeds, Places, IsNowhere}
 use Rattle.outside.specs.declared.trees.Kind.TheVariants as kind
-use Rattle.entry_pages.specs.declared.entries.Entry.{Entry}
-use Rattle.entry_pages.specs.Entries.{is_kind}
-use Rattle.level_work.specs.declared.items.Fate.{Fate}
-use Rattle.tree_copy.specs.Copying.{Copied, is_untold}
-use Rattle.tree_copy.specs.Laws.{FineEntriesAreCopied, IsFineEntry, TargetsAreLong}
-use Rattle.tree_copy.specs.Placing.{placed, placed_over}
-use Rattle.tree_copy.specs.declared.pairs.Pair.{Pair}
-use Rattle.tree_copy.specs.declared.pairs.PlaceError.{PlaceError}
 use Rattle.tree_copy.specs.declared.pairs.PlaceError.TheVariants as place
-use Rattle.tree_walk.specs.Told.{EntriesAreTold}
-use Rattle.tree_walk.specs.Walk.{walk, all_told, entry_of}
-use Rattle.tool_text.specs.NoteOrder.{AreInOrder, NothingToOrder}
-use Rattle.tool_words.specs.Asked.{CopyAsked, roots}
-use Rattle.tool_words.specs.Limits.{WithinCopy}
-use Rattle.run_report.specs.declared.reports.Report.{Report}
-use Rattle.run_report.specs.declared.stops.Stop.{Stop}
 use Rattle.run_report.specs.declared.stops.Stop.TheVariants as stop
-use Rattle.run_report.specs.Sides.{Side, side_with}
-use Rattle.run_entries.specs.Fine.{IsFineSide, DoneNamesNothing, FineWalksAreWhole, FineWalksNameNothing, FineWalksStopForMemory, StillCounts}
-use Rattle.run_entries.specs.Naming.{copy_notes}
-use Rattle.run_entries.proofs.Fine.{of_told, some_of}
-use Rattle.copy_report.specs.Copying.{ReportsCopies, StopsCopy, ReportsCopy, FineCopy, Copies}
-use Rattle.copy_report.specs.Laws.{FineCopySucceeds}
-use Rattle.copy_report.specs.Placing.{Places, IsNowhere}
 
 abbrev Row : Type 0
 Row = List ℕ × Fate

@@ -1,18 +1,8 @@
 -- The names in a directory are told by what is at and under it.
-use Rattle.std.proofs.Common.{◌≡◌, ℕ, true, false, cond, List, [], ◌∷◌, map, Some, None, refl, ap, ◌∙◌, sym}
-use Rattle.std.proofs.lemmas.Bool.{false≢true}
-use Rattle.std.specs.List.{AllByRecursion, filter, filter_map, cons_option}
-use Rattle.std.specs.FinMap.{get, keys, entries, get-entries, entries_sorted}
-use Rattle.std.specs.FinMap.Entries.{find, where_key, find-where_key, is_sorted-where_key, same_entries}
-use Rattle.path_text.specs.Path.{joined}
-use Rattle.path_text.specs.Order.{path_cmp, front}
-use Rattle.path_text.specs.Total.{path_cmp_total, path_cmp_same}
-use Rattle.path_text.proofs.Preorder.{front-joined}
-use Rattle.outside.specs.Tree.{Files, Node, name_below, names_in}
-use Rattle.outside.proofs.Children.{child_is, one_name_parts}
-use Rattle.tree_walk.specs.Roots.{is_in}
-use Rattle.tree_walk.proofs.Inside.{is_in_is, begins-itself}
-use Rattle.tree_walk.proofs.Covers.{child_covers}
+use Rattle.cut_laws.proofs.Prelude.{◌≡◌, ℕ, true, false, cond, List, [], ◌∷◌, map, Some, None, refl, ap, ◌∙◌, sym, false≢true, AllByRecursion, filter}
+use Rattle.cut_laws.proofs.Prelude.{filter_map, cons_option, get, keys, entries, get-entries, entries_sorted, find, where_key, find-where_key}
+use Rattle.cut_laws.proofs.Prelude.{is_sorted-where_key, same_entries, joined, path_cmp, front, path_cmp_total, path_cmp_same, front-joined, Files, Node}
+use Rattle.cut_laws.proofs.Prelude.{name_below, names_in, child_is, one_name_parts, is_in, is_in_is, begins-itself, child_covers}
 
 -- two trees are the same at and under the path
 abbrev pub SameAt : List ℕ → Files → Files → Type 0

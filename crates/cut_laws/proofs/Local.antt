@@ -1,28 +1,11 @@
 -- Cuts and walks see no more of a tree than what is at and under their starts.
-use Rattle.std.proofs.Common.{◌≡◌, ℕ, ◌+◌, ◌-◌, ◌≤◌, Bool, true, false, ◌||◌, cond, List, [], ◌∷◌, map, length}
-use Rattle.std.proofs.Common.{⊎_elim, refl, ap, ◌∙◌, sym, subst, arith, zero, suc}
-use Rattle.std.specs.List.{AllByRecursion, sum_by, flat_map}
-use Rattle.std.specs.FinMap.{get}
-use Rattle.std.proofs.lemmas.List.Elements.{recursion_from_All, All-from_recursion}
-use Rattle.std.proofs.lemmas.List.Sums.{sum_by-cons}
-use Rattle.path_text.specs.Path.{joined}
-use Rattle.outside.specs.Tree.{Files, IsTree, is_dir, names_in}
-use Rattle.outside.proofs.Names.{children_are_names, all_weaker}
-use Rattle.entry_pages.specs.declared.entries.Entry.{Entry}
-use Rattle.circle_run.specs.Balance.{Balanced}
-use Rattle.tree_walk.specs.Walk.{Answer, told, stat_failed, list_failed, Answers, answer_in, answers_in, entry_of, children_of, walk_down, walk}
-use Rattle.tree_walk.specs.Roots.{is_in, is_in_some}
-use Rattle.tree_walk.specs.Cut.{IsCut, log_by}
-use Rattle.tree_walk.proofs.Lists.{flat_same}
-use Rattle.tree_walk.proofs.Names.{no_names}
-use Rattle.tree_walk.proofs.Recursive.{of_children}
-use Rattle.tree_walk.proofs.Inside.{in_itself, in_trans}
-use Rattle.tree_walk.proofs.Standing.{In, of_all, each_in, above}
-use Rattle.tree_walk.proofs.Covers.{covers, covers-itself, one, some_covers}
-use Rattle.tree_walk.proofs.Once.{falls, each_here}
-use Rattle.tree_walk.proofs.AnyOrder.{moved}
-use Rattle.tree_walk.proofs.Cuts.{kids, handled_by, pushed_by}
-use Rattle.cut_laws.specs.Local.{SameBelow, CutsAreLocal, WalksAreLocal}
+use Rattle.cut_laws.proofs.Prelude.{◌≡◌, ℕ, ◌+◌, ◌-◌, ◌≤◌, Bool, true, false, ◌||◌, cond, List, [], ◌∷◌, map, length, ⊎_elim, refl, ap, ◌∙◌, sym, subst, arith}
+use Rattle.cut_laws.proofs.Prelude.{zero, suc, AllByRecursion, sum_by, flat_map, get, recursion_from_All, All-from_recursion, sum_by-cons, joined, Files}
+use Rattle.cut_laws.proofs.Prelude.{IsTree, is_dir, names_in, children_are_names, all_weaker, Entry, Balanced, Answer, told, stat_failed, list_failed, Answers}
+use Rattle.cut_laws.proofs.Prelude.{answer_in, answers_in, entry_of, children_of, walk_down, is_in, is_in_some, IsCut, log_by, flat_same, no_names, of_children}
+use Rattle.cut_laws.proofs.Prelude.{in_itself, in_trans, In, of_all, each_in, above, covers, covers-itself, one, some_covers, falls, each_here, moved, kids}
+use Rattle.cut_laws.proofs.Prelude.{handled_by, pushed_by, SameBelow, CutsAreLocal, WalksAreLocal}
+use Rattle.tree_walk.specs.Walk.{walk}
 use Rattle.cut_laws.proofs.Children.{SameAt, children_in, names_same}
 
 -- ---- what is at or under the starts

@@ -1,17 +1,7 @@
 -- A restart, in trees that are the same at and under the starts.
-use Rattle.std.proofs.Common.{◌≡◌, ◌+◌, List, ◌++◌, ap, ◌∙◌, sym, arith}
-use Rattle.std.specs.List.{sum_by, flat_map}
-use Rattle.std.proofs.lemmas.List.Sums.{sum_by-append}
-use Rattle.std.proofs.lemmas.List.Sorted.{sum_by-IsPermutation}
-use Rattle.entry_pages.specs.declared.entries.Entry.{Entry}
-use Rattle.tree_walk.specs.Walk.{all_told, walk, weight_of}
-use Rattle.tree_walk.specs.Found.{IsWalkOf}
-use Rattle.tree_walk.specs.Cut.{IsJoined}
-use Rattle.tree_walk.proofs.Covers.{from_apart}
-use Rattle.tree_walk.proofs.Lawful.{all_told_in}
-use Rattle.tree_walk.proofs.Ordered.{in_order}
-use Rattle.tree_walk.proofs.Restarts.{restart_is_walk}
-use Rattle.cut_laws.specs.Local.{RestartIsWalkInEach, FineWalksAreOne, RestartFindsTheWalk}
+use Rattle.cut_laws.proofs.Prelude.{◌≡◌, ◌+◌, List, ◌++◌, ap, ◌∙◌, sym, arith, sum_by, flat_map, sum_by-append, sum_by-IsPermutation, Entry, all_told, walk}
+use Rattle.cut_laws.proofs.Prelude.{weight_of, IsWalkOf, IsJoined, from_apart, all_told_in, in_order, restart_is_walk, RestartIsWalkInEach, FineWalksAreOne}
+use Rattle.cut_laws.proofs.Prelude.{RestartFindsTheWalk}
 use Rattle.cut_laws.proofs.Local.{left_within, all_deeper, walks_are_local}
 
 pub restart_is_walk_in_each : RestartIsWalkInEach

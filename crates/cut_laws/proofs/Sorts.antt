@@ -1,34 +1,11 @@
 -- The order of a sort ties no two paths, so it puts a list in one order.
-use Rattle.std.proofs.Common.{◌≡◌, ℕ, ◌+◌, Bool, true, false, cond, List, [], ◌∷◌, map, get_or, zero, suc, refl, ap, ◌∙◌}
-use Rattle.std.proofs.Common.{sym, subst, arith, eqb}
-use Rattle.std.specs.List.{AllByRecursion, sum_by}
-use Rattle.std.specs.List.Sorted.{IsSorted, IsStrictlySortedBy}
-use Rattle.std.specs.Ordering.{on, is_lt, ordering_then, ordering_reverse}
-use Rattle.std.specs.declared.cmp.Ordering.{Ordering}
-use Rattle.std.specs.declared.cmp.Ordering.TheVariants.{Less, Equal, Greater}
-use Rattle.std.specs.Cmp.{IsTotalOrder}
-use Rattle.std.specs.Cmp.Lexicographic.{pointwise, bytes_decides, nat_list_eq_equiv}
-use Rattle.std.proofs.lemmas.Bool.{false≢true}
-use Rattle.std.proofs.lemmas.Cmp.{on_total, tied_itself}
-use Rattle.std.proofs.lemmas.List.{length-map}
-use Rattle.std.proofs.lemmas.List.Sums.{sum_by-cons}
-use Rattle.std.proofs.lemmas.List.Sorted.{sum_by-IsPermutation, sorted_far, ranks_by}
-use Rattle.std.proofs.lemmas.List.Elements.{recursion_from_All}
-use Rattle.std.proofs.Math.ListN.{get_or-map}
-use Rattle.path_text.specs.Order.{path_cmp}
-use Rattle.path_text.specs.Total.{path_cmp_same}
-use Rattle.entry_pages.specs.declared.entries.Entry.{Entry}
+use Rattle.cut_laws.proofs.Prelude.{◌≡◌, ℕ, ◌+◌, Bool, true, false, cond, List, [], ◌∷◌, map, get_or, zero, suc, refl, ap, ◌∙◌, sym, subst, arith, eqb}
+use Rattle.cut_laws.proofs.Prelude.{AllByRecursion, sum_by, IsSorted, on, is_lt, ordering_then, ordering_reverse, Ordering, Less, Equal, Greater, IsTotalOrder}
+use Rattle.cut_laws.proofs.Prelude.{pointwise, bytes_decides, nat_list_eq_equiv, false≢true, on_total, tied_itself, length-map, sum_by-cons}
+use Rattle.cut_laws.proofs.Prelude.{sum_by-IsPermutation, sorted_far, ranks_by, recursion_from_All, get_or-map, path_cmp, path_cmp_same, Entry, Field, by_path}
+use Rattle.cut_laws.proofs.Prelude.{by_field, turned, sort_order, sort_order_total, bare, paths_of, moved, one, one-same, unequal, SortsAreUnique, sum_by-map}
+use Rattle.std.specs.List.Sorted.{IsStrictlySortedBy}
 use Rattle.entry_pages.specs.declared.entries.Mark.TheVariants as mark
-use Rattle.flat_list.specs.declared.ordering.Field.{Field}
-use Rattle.flat_list.specs.Orders.{by_path, by_field, turned, sort_order}
-use Rattle.flat_list.proofs.Ordered.{sort_order_total}
-use Rattle.tree_walk.specs.Walk.{bare, paths_of}
-use Rattle.tree_walk.proofs.AnyOrder.{moved}
-use Rattle.tree_walk.proofs.Covers.{one}
-use Rattle.tree_walk.proofs.Once.{one-same}
-use Rattle.tree_walk.proofs.Same.{unequal}
-use Rattle.cut_laws.specs.Sorts.{SortsAreUnique}
-use Rattle.circle_run.proofs.Maps.{sum_by-map}
 
 -- ---- paths in an order that ties no two of them
 

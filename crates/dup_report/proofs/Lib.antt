@@ -1,2 +1,3 @@
+mod Prelude
 pub mod Steps
 pub mod Succeeds

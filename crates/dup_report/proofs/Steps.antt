@@ -1,14 +1,6 @@
 -- What the steps of ddup told, as its own words say it.
-use Rattle.std.proofs.Common.{◌≡◌, ◌≤◌, List, length, subst}
-use Rattle.outside.specs.Count.{RoseBy}
-use Rattle.entry_pages.specs.declared.entries.Entry.{Entry}
-use Rattle.flat_list.specs.Spelling.{max_entries}
-use Rattle.tree_dup.specs.Grouping.{IsGrouping}
-use Rattle.tree_dup.specs.Told.{Grouping}
-use Rattle.tool_words.specs.Asked.{DupAsked}
-use Rattle.run_report.specs.Sides.{Side, side_with}
-use Rattle.run_entries.specs.Entries.{Walked}
-use Rattle.dup_report.specs.Grouping.{FindsGroups}
+use Rattle.dup_report.proofs.Prelude.{◌≡◌, ◌≤◌, List, length, subst, RoseBy, Entry, max_entries, IsGrouping, Grouping, DupAsked, Side, side_with, Walked}
+use Rattle.dup_report.proofs.Prelude.{FindsGroups}
 
 -- the roots were walked, and then the files were grouped
 pub record Steps (asked : DupAsked) (entries : List Entry) (found : Grouping) (before walked after : Side) : Type 0 where

@@ -1,17 +1,9 @@
 -- When ddup succeeds.
-use Rattle.std.proofs.Common.{◌≡◌, ⊎_elim, ℕ, false, List, [], ◌∷◌, ◌++◌, length, IfSome, refl, ap, subst, arith, ◌∙◌}
-use Rattle.tree_dup.specs.Grouping.{IsByBytes}
+use Rattle.dup_report.proofs.Prelude.{◌≡◌, ⊎_elim, ℕ, false, List, [], ◌∷◌, ◌++◌, length, IfSome, refl, ap, subst, arith, ◌∙◌, IsByBytes, AreInOrder}
+use Rattle.dup_report.proofs.Prelude.{NothingToOrder, DupAsked, roots, WithinDup, Report, Stop, Side, side_with, IsFineSide, FineWalksNameNothing}
+use Rattle.dup_report.proofs.Prelude.{FineWalksStopForMemory, StillCounts, path_notes, ReportsDup, StopsDup, FineDup, FineDupSucceeds}
 use Rattle.tool_text.specs.declared.noting.Why.TheVariants as why
-use Rattle.tool_text.specs.NoteOrder.{AreInOrder, NothingToOrder}
-use Rattle.tool_words.specs.Asked.{DupAsked, roots}
-use Rattle.tool_words.specs.Limits.{WithinDup}
-use Rattle.run_report.specs.declared.reports.Report.{Report}
-use Rattle.run_report.specs.declared.stops.Stop.{Stop}
 use Rattle.run_report.specs.declared.stops.Stop.TheVariants as stop
-use Rattle.run_report.specs.Sides.{Side, side_with}
-use Rattle.run_entries.specs.Fine.{IsFineSide, FineWalksNameNothing, FineWalksStopForMemory, StillCounts}
-use Rattle.dup_report.specs.Grouping.{path_notes, ReportsDup, StopsDup, FineDup}
-use Rattle.dup_report.specs.Laws.{FineDupSucceeds}
 
 no_path : (paths : List (List ℕ)) → length paths ≡ 0 → paths ≡ []
 no_path [] none = refl

@@ -1,24 +1,10 @@
 -- What is kept of a list, put as it stands behind what is kept of another that ends where a page begins, is what is kept of both.
-use Rattle.std.proofs.Common.{◌≡◌, ℕ, suc, ◌+◌, ◌-◌, ◌*◌, ◌^◌, ◌<◌, ◌%◌, true, inl, inr, List, [], ◌∷◌, ◌++◌}
-use Rattle.std.proofs.Common.{length, map, take, refl, ap, ap₂, sym, subst, ◌∙◌, arith}
-use Rattle.std.specs.Prelude.{Some, slice_get, ◌&&◌, All}
-use Rattle.std.specs.List.{list_all, sum_by}
-use Rattle.std.specs.Option.{option_map}
-use Rattle.std.proofs.lemmas.Bool.{cases_lt}
-use Rattle.std.proofs.lemmas.Grind.{flat_map-append}
-use Rattle.std.proofs.lemmas.List.{take-append-le, map-append, length-map, length-append}
-use Rattle.std.proofs.lemmas.List.Elements.{All-from_get_or}
-use Rattle.std.proofs.lemmas.List.Folds.{list_all-append}
-use Rattle.std.proofs.lemmas.List.Sums.{sum_by-append, sum_by-take-le}
-use Rattle.std.proofs.lemmas.Option.{slice_get-map, get_or_from_slice_get}
-use Rattle.std.proofs.Math.Seq.{take-append-add}
-use Rattle.entry_pages.specs.declared.entries.Entry.{Entry}
-use Rattle.entry_pages.specs.Pack.{Head}
-use Rattle.entry_pages.specs.declared.slims.Slim.{Slim}
-use Rattle.entry_pages.specs.declared.slims.Odd.{Odd}
-use Rattle.entry_pages.specs.Pack.{head_by, heads_from, rests_from, last_path, unpacked}
-use Rattle.entry_pages.specs.Private.Kept.{IsKept, AreStarts, is_path}
-use Rattle.entry_pages.specs.Private.Slim.{slim_by, odds_by, odd_count, text_by, text_len, is_text, heads_of, IsSlim}
+use Rattle.entry_pages.proofs.Prelude.{◌≡◌, ℕ, suc, ◌+◌, ◌-◌, ◌*◌, ◌^◌, ◌<◌, ◌%◌, true, inl, inr, List, [], ◌∷◌, ◌++◌, length, map, take, refl, ap, ap₂, sym}
+use Rattle.entry_pages.proofs.Prelude.{subst, ◌∙◌, arith, Some, slice_get, ◌&&◌, list_all, sum_by, option_map, cases_lt, flat_map-append, take-append-le}
+use Rattle.entry_pages.proofs.Prelude.{map-append, length-map, length-append, All-from_get_or, list_all-append, sum_by-append, sum_by-take-le, slice_get-map}
+use Rattle.entry_pages.proofs.Prelude.{get_or_from_slice_get, take-append-add, Entry, Head, Slim, Odd, head_by, heads_from, rests_from, last_path, unpacked}
+use Rattle.entry_pages.proofs.Prelude.{IsKept, AreStarts, is_path, slim_by, odds_by, odd_count, text_by, text_len, is_text, heads_of, IsSlim}
+use Rattle.std.specs.Prelude.{All}
 use Rattle.entry_pages.proofs.Inverse.{slice_left, kept_many, all_rests, inverse}
 use Rattle.entry_pages.proofs.Passed.{any_front, any_rests}
 use Rattle.entry_pages.proofs.Paged.{rests_split, rests_shift, heads_shift}

@@ -1,17 +1,8 @@
 -- The counts of a list, with one entry more whose head is known.
-use Rattle.std.proofs.Common.{◌≡◌, ℕ, zero, suc, ◌+◌, ◌≤◌, Bool, true, false, cond, List, [], ◌∷◌, ◌++◌, length, take, drop, refl}
-use Rattle.std.proofs.Common.{ap, sym, ◌∙◌, arith}
-use Rattle.std.specs.Prelude.{Some, slice_get, is_some, ◌==◌, if◌then◌else◌}
-use Rattle.std.specs.List.{sum_by}
-use Rattle.std.proofs.lemmas.List.{take_more}
-use Rattle.std.proofs.lemmas.List.Sums.{sum_by-append}
-use Rattle.std.proofs.lemmas.Option.{get_or_from_slice_get, slice_get_within}
+use Rattle.entry_pages.proofs.Prelude.{◌≡◌, ℕ, zero, suc, ◌+◌, ◌≤◌, Bool, true, false, cond, List, [], ◌∷◌, ◌++◌, length, take, drop, refl, ap, sym, ◌∙◌, arith}
+use Rattle.entry_pages.proofs.Prelude.{Some, slice_get, is_some, ◌==◌, if◌then◌else◌, sum_by, take_more, sum_by-append, get_or_from_slice_get, slice_get_within}
+use Rattle.entry_pages.proofs.Prelude.{Entry, Head, Summary, is_of, bytes_by, mark_notes, note_count, summary_of, entry_by, path_by, path_len, unpacked}
 use Rattle.outside.specs.declared.trees.Kind.TheVariants as kind
-use Rattle.entry_pages.specs.declared.entries.Entry.{Entry}
-use Rattle.entry_pages.specs.Pack.{Head}
-use Rattle.entry_pages.specs.declared.summaries.Summary.{Summary}
-use Rattle.entry_pages.specs.Entries.{is_of, bytes_by, mark_notes, note_count, summary_of}
-use Rattle.entry_pages.specs.Pack.{entry_by, path_by, path_len, unpacked}
 
 -- the entry of a head
 entry_at : (before : List ℕ) (hs : List Head) (bytes : List ℕ) (k : ℕ) (h : Head) → slice_get hs k ≡ Some h →

@@ -1,27 +1,11 @@
 -- Packing and unpacking are inverse, and packing goes on behind.
-use Rattle.std.proofs.Common.{◌≡◌, ℕ, zero, suc, ◌+◌, ◌<◌, ◌≤◌, ◌%◌, true, false, cond, List, [], ◌∷◌, ◌++◌, length, take}
-use Rattle.std.proofs.Common.{drop, refl}
-use Rattle.std.proofs.Common.{ap, sym, Result, Ok, Err, ◌∙◌, arith, append_assoc}
-use Rattle.std.specs.Prelude.{nat_eq, ◌==◌, ◌&&◌}
-use Rattle.std.specs.List.{common_prefix_len, list_all, sum_by}
-use Rattle.std.proofs.lemmas.List.{take-append-drop, take-append-le, take_all, length-append, length-drop, drop-drop}
-use Rattle.std.proofs.Math.Seq.{take-append_seam, drop-append_seam}
-use Rattle.std.proofs.lemmas.List.{append-nil}
-use Rattle.std.proofs.lemmas.List.Sums.{common_prefix_len-le, sum_by-cons}
-use Rattle.std.proofs.lemmas.Bool.Decides.{nat_tests}
-use Rattle.path_text.specs.Path.{refusal}
-use Rattle.entry_pages.specs.declared.entries.Entry.{Entry}
-use Rattle.entry_pages.specs.Pack.{Head}
-use Rattle.entry_pages.specs.Pack.{head_from, shared_by, rest_by, head_by, heads_from, rests_from, entry_by, unpacked, last_path, starts_by, path_len}
-use Rattle.entry_pages.specs.Private.Kept.{IsKept, AreStarts, is_path, rest_sum}
-use Rattle.std.specs.Prelude.{Some, None, slice_get, OnOk, OnErr, ◌*◌, ◌<◌}
-use Rattle.std.proofs.Common.{inl, inr}
-use Rattle.std.proofs.lemmas.Bool.{cases_lt}
-use Rattle.path_text.specs.declared.errors.OutOfMemory.{OutOfMemory}
-use Rattle.std.specs.Str.{IsUtf8}
-use Rattle.std.proofs.lemmas.Str.{is_utf8-from_IsUtf8}
-use Rattle.std.specs.Str.{is_utf8}
-use Rattle.std.proofs.lemmas.Map.Views.{exact_unsigned_eq}
+use Rattle.entry_pages.proofs.Prelude.{◌≡◌, ℕ, zero, suc, ◌+◌, ◌≤◌, ◌%◌, true, false, cond, List, [], ◌∷◌, ◌++◌, length, take, drop, refl, ap, sym, Result, Ok}
+use Rattle.entry_pages.proofs.Prelude.{Err, ◌∙◌, arith, append_assoc, nat_eq, ◌==◌, ◌&&◌, common_prefix_len, list_all, sum_by, take-append-drop, take-append-le}
+use Rattle.entry_pages.proofs.Prelude.{take_all, length-append, length-drop, drop-drop, take-append_seam, drop-append_seam, append-nil, common_prefix_len-le}
+use Rattle.entry_pages.proofs.Prelude.{sum_by-cons, nat_tests, refusal, Entry, Head, head_from, shared_by, rest_by, head_by, heads_from, rests_from, entry_by}
+use Rattle.entry_pages.proofs.Prelude.{unpacked, last_path, starts_by, path_len, IsKept, AreStarts, is_path, rest_sum, Some, None, slice_get, OnOk, OnErr, inl}
+use Rattle.entry_pages.proofs.Prelude.{inr, cases_lt, OutOfMemory, IsUtf8, is_utf8-from_IsUtf8, is_utf8, exact_unsigned_eq}
+use Rattle.std.specs.Prelude.{◌<◌, ◌*◌}
 
 cons_same : (x y : ℕ) (s t : List ℕ) → x ≡ y → s ≡ t → x ∷ s ≡ y ∷ t
 cons_same x y s t e f = cc

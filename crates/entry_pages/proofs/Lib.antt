@@ -1,3 +1,4 @@
+mod Prelude
 pub mod Inverse
 pub mod Passed
 pub mod Paged

@@ -1,18 +1,9 @@
 -- A page is a part of the rests, and one may begin before it.
-use Rattle.std.proofs.Common.{◌≡◌, ℕ, zero, suc, ◌+◌, ◌-◌, ◌*◌, ◌<◌, ◌≤◌, ◌%◌, inl, inr, cond, List, [], ◌∷◌, ◌++◌}
-use Rattle.std.proofs.Common.{length, take, drop, get_or, refl, ap, sym, ◌∙◌, arith, append_assoc}
-use Rattle.std.specs.Prelude.{nat_eq, ◌==◌}
-use Rattle.std.specs.List.{common_prefix_len}
-use Rattle.std.proofs.lemmas.Bool.{cases_lt}
-use Rattle.std.proofs.lemmas.List.{take-append-drop, take_all, drop-drop, length-append, length-take-le}
-use Rattle.std.proofs.lemmas.List.Sums.{sum_by-take-drop}
-use Rattle.std.proofs.lemmas.Option.{slice_get_past, unwrap_or-slice_get, get_or_from_slice_get}
-use Rattle.std.specs.Option.{unwrap_or}
-use Rattle.std.proofs.Math.Seq.{take-append_seam, drop-append_seam}
-use Rattle.entry_pages.specs.declared.entries.Entry.{Entry}
-use Rattle.entry_pages.specs.Pack.{Head}
-use Rattle.entry_pages.specs.Pack.{rest_by, head_by, head_from, heads_from, rests_from, last_path, page_of, unpacked}
-use Rattle.entry_pages.specs.Private.Kept.{IsKept, IsBefore, AreStarts, rest_sum}
+use Rattle.entry_pages.proofs.Prelude.{◌≡◌, ℕ, zero, suc, ◌+◌, ◌-◌, ◌*◌, ◌<◌, ◌≤◌, ◌%◌, inl, inr, cond, List, [], ◌∷◌, ◌++◌, length, take, drop, get_or, refl}
+use Rattle.entry_pages.proofs.Prelude.{ap, sym, ◌∙◌, arith, append_assoc, nat_eq, ◌==◌, common_prefix_len, cases_lt, take-append-drop, take_all, drop-drop}
+use Rattle.entry_pages.proofs.Prelude.{length-append, length-take-le, sum_by-take-drop, slice_get_past, unwrap_or-slice_get, get_or_from_slice_get, unwrap_or}
+use Rattle.entry_pages.proofs.Prelude.{take-append_seam, drop-append_seam, Entry, Head, rest_by, head_by, head_from, heads_from, rests_from, last_path, page_of}
+use Rattle.entry_pages.proofs.Prelude.{unpacked, IsKept, IsBefore, AreStarts, rest_sum}
 use Rattle.entry_pages.proofs.Inverse.{kept_many, rests_many, all_rests}
 use Rattle.entry_pages.proofs.Passed.{any_front, any_rests}
 

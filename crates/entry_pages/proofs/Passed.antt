@@ -1,24 +1,10 @@
 -- A cursor passes an entry.
-use Rattle.std.proofs.Common.{◌≡◌, ℕ, ◌+◌, ◌-◌, ◌<◌, ◌≤◌, true, false, List, [], ◌∷◌, ◌++◌, length, take, drop, get_or}
-use Rattle.std.proofs.Common.{refl, subst, ap, ap₂, sym, ◌∙◌, arith}
-use Rattle.std.specs.Prelude.{Option, Some, None, slice_get, ◌&&◌, is_none}
-use Rattle.std.specs.Str.{is_utf8}
-use Rattle.std.specs.List.{list_all, All}
-use Rattle.std.proofs.lemmas.Bool.{and_parts}
-use Rattle.std.proofs.lemmas.List.Elements.{All-cons, All-nil}
-use Rattle.std.specs.Ordering.{is_lt}
-use Rattle.std.proofs.lemmas.List.{drop_more, take_more, length-drop, length-append, take-append-drop}
-use Rattle.std.proofs.lemmas.List.Folds.{list_all_at}
-use Rattle.std.proofs.lemmas.Option.{slice_get-get_or, slice_get_within, get_or_from_slice_get}
-use Rattle.path_text.specs.Path.{refusal}
-use Rattle.path_text.specs.Order.{path_cmp}
-use Rattle.path_text.proofs.Words.{behind, rest_of}
-use Rattle.entry_pages.specs.declared.entries.Entry.{Entry}
-use Rattle.entry_pages.specs.Pack.{Head}
+use Rattle.entry_pages.proofs.Prelude.{◌≡◌, ℕ, ◌+◌, ◌-◌, ◌<◌, ◌≤◌, true, false, List, [], ◌∷◌, ◌++◌, length, take, drop, get_or, refl, subst, ap, ap₂, sym, ◌∙◌}
+use Rattle.entry_pages.proofs.Prelude.{arith, Option, Some, None, slice_get, ◌&&◌, is_none, is_utf8, list_all, All, and_parts, All-cons, All-nil, is_lt}
+use Rattle.entry_pages.proofs.Prelude.{drop_more, take_more, length-drop, length-append, take-append-drop, list_all_at, slice_get-get_or, slice_get_within}
+use Rattle.entry_pages.proofs.Prelude.{get_or_from_slice_get, refusal, path_cmp, behind, rest_of, Entry, Head, with_text, rest_by, head_by, heads_from}
+use Rattle.entry_pages.proofs.Prelude.{rests_from, path_by, entry_by, unpacked, RisesAt, IsKept, IsAt, IsBefore, is_path}
 use Rattle.entry_pages.specs.declared.heads.Head as told
-use Rattle.entry_pages.specs.Private.Slim.{with_text}
-use Rattle.entry_pages.specs.Pack.{rest_by, head_by, heads_from, rests_from, path_by, entry_by, unpacked, RisesAt}
-use Rattle.entry_pages.specs.Private.Kept.{IsKept, IsAt, IsBefore, is_path}
 use Rattle.entry_pages.proofs.Inverse.{path_back, kept_many, shared_front, rests_behind}
 
 pub refusal_of : (p : List ℕ) → is_path p ≡ true → refusal p ≡ None

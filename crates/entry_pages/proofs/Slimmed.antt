@@ -1,36 +1,17 @@
 -- Heads and what is kept of them are inverse, and more is kept behind.
-use Rattle.std.proofs.Common.{◌≡◌, ℕ, zero, suc, ◌+◌, ◌*◌, ◌<◌, Bool, true, false, List, [], ◌∷◌, ◌++◌, length, map, take, drop}
-use Rattle.std.proofs.Common.{get_or, refl, ap, cond, ◌≤◌, nat_lt}
-use Rattle.std.proofs.Common.{ap₂, sym, subst, ◌∙◌, arith}
-use Rattle.std.specs.Prelude.{Option, Some, None, slice_get, not, is_some, is_none, ◌==◌, ◌&&◌, ◌||◌, if◌then◌else◌}
-use Rattle.std.specs.List.{flat_map, list_all, sum_by}
-use Rattle.std.proofs.lemmas.Bool.Decides.{nat_tests}
-use Rattle.std.proofs.lemmas.Grind.{flat_map-append}
-use Rattle.std.proofs.lemmas.List.{append-nil, map-append, length-map, length-append, drop_more, drop-drop, length-drop}
-use Rattle.std.proofs.lemmas.List.Sums.{sum_by-cons, sum_by-take-drop}
-use Rattle.std.proofs.Math.Seq.{drop-append_seam, take-append_seam}
-use Rattle.std.specs.Option.{option_map}
-use Rattle.std.proofs.lemmas.Option.{slice_get-map, slice_get-get_or, slice_get_within, get_or_from_slice_get}
-use Rattle.outside.specs.declared.trees.Kind.{Kind}
+use Rattle.entry_pages.proofs.Prelude.{◌≡◌, ℕ, zero, suc, ◌+◌, ◌*◌, ◌<◌, Bool, true, false, List, [], ◌∷◌, ◌++◌, length, map, take, drop, get_or, refl, ap}
+use Rattle.entry_pages.proofs.Prelude.{cond, ◌≤◌, ap₂, sym, subst, ◌∙◌, arith, Option, Some, None, slice_get, not, is_some, is_none, ◌==◌, ◌&&◌, ◌||◌}
+use Rattle.entry_pages.proofs.Prelude.{if◌then◌else◌, flat_map, list_all, sum_by, nat_tests, flat_map-append, append-nil, map-append, length-map, length-append}
+use Rattle.entry_pages.proofs.Prelude.{drop_more, drop-drop, length-drop, sum_by-cons, sum_by-take-drop, drop-append_seam, take-append_seam, option_map}
+use Rattle.entry_pages.proofs.Prelude.{slice_get-map, slice_get-get_or, slice_get_within, get_or_from_slice_get, Kind, Stat, Head, Slim, Odd, size_by}
+use Rattle.entry_pages.proofs.Prelude.{starts_by, AreStarts, kind_shown, shown_by, seconds_or, time_or, is_timed, is_odd, slim_by, odd_by, odds_by, odd_count}
+use Rattle.entry_pages.proofs.Prelude.{stat_shown, target_bytes, text_by, text_len, is_text, target_by, head_told, first_odd, odds_after, heads_of, IsSlim}
+use Rattle.entry_pages.proofs.Prelude.{IsLead, link_refusal, has_zero, is_utf8, IsUtf8, is_utf8-from_IsUtf8, IsUtf8-from_is_utf8, and_parts, false≢true}
+use Rattle.entry_pages.proofs.Prelude.{list_all-append, list_all_at, some_length}
+use Rattle.std.proofs.Common.{nat_lt}
 use Rattle.outside.specs.declared.trees.Kind.TheVariants as kind
-use Rattle.outside.specs.declared.trees.Stat.{Stat}
-use Rattle.entry_pages.specs.Pack.{Head}
-use Rattle.entry_pages.specs.declared.slims.Slim.{Slim}
-use Rattle.entry_pages.specs.declared.slims.Odd.{Odd}
-use Rattle.entry_pages.specs.Entries.{size_by}
-use Rattle.entry_pages.specs.Pack.{starts_by}
-use Rattle.entry_pages.specs.Private.Kept.{AreStarts}
-use Rattle.entry_pages.specs.Private.Slim.{kind_shown, shown_by, seconds_or, time_or, is_timed, is_odd, slim_by, odd_by, odds_by, odd_count, stat_shown}
-use Rattle.entry_pages.specs.Private.Slim.{target_bytes, text_by, text_len, is_text, target_by, head_told, first_odd, odds_after, heads_of, IsSlim, IsLead}
-use Rattle.outside.specs.Links.{link_refusal}
 use Rattle.outside.specs.declared.links.LinkTextError.TheVariants as link
-use Rattle.path_text.specs.Order.{has_zero}
-use Rattle.std.specs.Str.{is_utf8, IsUtf8}
-use Rattle.std.proofs.lemmas.Str.{is_utf8-from_IsUtf8, IsUtf8-from_is_utf8}
-use Rattle.std.proofs.lemmas.Bool.{and_parts, false≢true}
-use Rattle.std.proofs.lemmas.List.Folds.{list_all-append, list_all_at}
 use Rattle.entry_pages.proofs.Inverse.{starts_more}
-use Rattle.path_text.proofs.Told.{some_length}
 
 some_back : (k : Kind) (size : ℕ) (t : Option ℕ) →
     stat_shown (kind_shown k) size (if is_some t then Some (seconds_or t) else None) ≡ Some (record { kind = k; size = size; mtime = t })

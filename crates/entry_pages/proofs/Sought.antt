@@ -1,24 +1,10 @@
 -- What a path shares with a wanted one follows from what the path before it shares with it.
-use Rattle.std.proofs.Common.{◌≡◌, ℕ, suc, ◌+◌, ◌<◌, ◌≤◌, ◌%◌, Bool, true, false, cond, List, [], ◌∷◌, ◌++◌, length, take}
-use Rattle.std.proofs.Common.{drop, refl, ap, sym, ◌∙◌, arith}
-use Rattle.std.specs.Prelude.{nat_eq, ◌==◌}
-use Rattle.std.specs.List.{common_prefix_len}
-use Rattle.std.specs.List.{position_or_len, position}
-use Rattle.std.specs.Prelude.{◌&&◌, not, nat_lt, Some, None, slice_get}
-use Rattle.std.proofs.lemmas.Option.{slice_get_within, get_or_from_slice_get}
-use Rattle.std.specs.Cmp.Lexicographic.{pointwise}
-use Rattle.std.proofs.Common.{get_or}
-use Rattle.std.proofs.lemmas.List.{drop_more, take_more, length-drop, length-append}
-use Rattle.std.proofs.lemmas.List.Sums.{common_prefix_len-le}
-use Rattle.std.proofs.Math.Seq.{take-append_seam}
-use Rattle.std.proofs.lemmas.Bool.Decides.{nat_tests}
-use Rattle.entry_pages.specs.declared.entries.Entry.{Entry}
-use Rattle.entry_pages.specs.declared.entries.Mark.TheVariants.{Fine}
-use Rattle.entry_pages.specs.Pack.{Head}
-use Rattle.entry_pages.specs.Pack.{shared_by, rest_by, head_by, heads_from, rests_from, last_path, same_after, place_of}
-use Rattle.entry_pages.specs.Private.Kept.{IsSeek, IsKept}
+use Rattle.entry_pages.proofs.Prelude.{◌≡◌, ℕ, suc, ◌+◌, ◌<◌, ◌≤◌, ◌%◌, Bool, true, false, cond, List, [], ◌∷◌, ◌++◌, length, take, drop, refl, ap, sym, ◌∙◌}
+use Rattle.entry_pages.proofs.Prelude.{arith, nat_eq, ◌==◌, common_prefix_len, position_or_len, position, ◌&&◌, not, nat_lt, Some, None, slice_get}
+use Rattle.entry_pages.proofs.Prelude.{slice_get_within, get_or_from_slice_get, pointwise, get_or, drop_more, take_more, length-drop, length-append}
+use Rattle.entry_pages.proofs.Prelude.{common_prefix_len-le, take-append_seam, nat_tests, Entry, Fine, Head, shared_by, rest_by, head_by, heads_from}
+use Rattle.entry_pages.proofs.Prelude.{rests_from, last_path, same_after, place_of, IsSeek, IsKept, exact_unsigned_eq}
 use Rattle.entry_pages.proofs.Inverse.{last_more, kept_many, shared_short, rests_behind}
-use Rattle.std.proofs.lemmas.Map.Views.{exact_unsigned_eq}
 use Rattle.entry_pages.proofs.Passed.{first_head, rest_heads}
 
 -- two lists from their first elements on

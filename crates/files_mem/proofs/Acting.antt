@@ -1,18 +1,10 @@
 -- What a call that writes answers where it is refused.
-use Rattle.std.proofs.Common.{◌≡◌, ℕ, Bool, true, false, cond, ◌||◌, ◌⊎◌, inl, inr, is_some, List, Option, Some, None, refl, ap, ◌∙◌, sym, subst}
-use Rattle.std.proofs.lemmas.Bool.{false≢true}
-use Rattle.std.specs.Prelude.{Result, Err}
-use Rattle.std.specs.FinMap.{get}
-use Rattle.path_text.specs.Path.{parent_of}
-use Rattle.outside.specs.Tree.{Files, Node, is_file, is_dir}
-use Rattle.outside.specs.Writes.{Cut, all_but, under, is_top, make_refusal, write_refusal, Answers, may_change}
-use Rattle.outside.specs.declared.plots.WriteError.{WriteError}
+use Rattle.files_mem.proofs.Prelude.{◌≡◌, ℕ, Bool, true, false, cond, ◌||◌, ◌⊎◌, inl, inr, is_some, List, Option, Some, None, refl, ap, ◌∙◌, sym, subst}
+use Rattle.files_mem.proofs.Prelude.{false≢true, Result, Err, get, parent_of, Files, Node, is_file, is_dir, Cut, all_but, under, is_top, make_refusal}
+use Rattle.files_mem.proofs.Prelude.{write_refusal, Answers, may_change, WriteError, Call, is_planned, PutError, Memory, Acts, put_refusal, put_refusal_at}
+use Rattle.files_mem.proofs.Prelude.{write_error}
 use Rattle.outside.specs.declared.plots.WriteError.TheVariants as e
-use Rattle.files_mem.specs.declared.plans.Call.{Call}
-use Rattle.files_mem.specs.Planned.{is_planned}
-use Rattle.files_mem.specs.declared.errors.PutError.{PutError}
 use Rattle.files_mem.specs.declared.errors.PutError.TheVariants as put
-use Rattle.files_mem.specs.Memory.{Memory, Acts, put_refusal, put_refusal_at, write_error}
 
 -- a refusal that is no fault
 abbrev pub is_named : WriteError → Bool

@@ -1,21 +1,11 @@
 -- Where the children of a path stand among keys in path order.
-use Rattle.std.proofs.Common.{◌≡◌, ℕ, ◌<◌, ◌≤◌, Bool, true, false, ◌&&◌, ◌||◌, ◌⊎◌, inl, inr, List, [], ◌∷◌, ◌++◌, length, refl, ap, ◌∙◌, sym, subst}
-use Rattle.std.proofs.Common.{arith, cond, eqb, Some, None, append_assoc, length-append}
-use Rattle.std.proofs.lemmas.Bool.{false≢true, or_parts}
-use Rattle.std.specs.Prelude.{◌==◌, nat_lt}
-use Rattle.std.specs.List.{list_any, starts_with}
-use Rattle.std.specs.Ordering.{nat_cmp, ordering_then, is_le}
-use Rattle.std.specs.declared.cmp.Ordering.{Ordering}
-use Rattle.std.specs.declared.cmp.Ordering.TheVariants.{Less, Equal, Greater}
-use Rattle.std.proofs.lemmas.Bool.Decides.{nat_tests}
-use Rattle.path_text.specs.Order.{path_cmp, byte_rank, front}
-use Rattle.path_text.proofs.Preorder.{before_all, front-joined, self_equal}
-use Rattle.path_text.specs.Path.{is_slash, refusal, joined}
-use Rattle.outside.specs.Tree.{is_one_name, name_below}
-use Rattle.outside.proofs.Children.{name_below-front, name_below-off, child_is, one_name_parts}
-use Rattle.path_text.proofs.Parts.{short}
+use Rattle.files_mem.proofs.Prelude.{◌≡◌, ℕ, ◌<◌, ◌≤◌, Bool, true, false, ◌&&◌, ◌||◌, ◌⊎◌, inl, inr, List, [], ◌∷◌, ◌++◌, length, refl, ap, ◌∙◌, sym, subst}
+use Rattle.files_mem.proofs.Prelude.{arith, cond, eqb, Some, None, append_assoc, false≢true, or_parts, ◌==◌, nat_lt, list_any, starts_with, nat_cmp}
+use Rattle.files_mem.proofs.Prelude.{ordering_then, is_le, Ordering, Less, Equal, Greater, nat_tests, path_cmp, byte_rank, front, before_all, front-joined}
+use Rattle.files_mem.proofs.Prelude.{self_equal, is_slash, refusal, joined, is_one_name, name_below, name_below-front, name_below-off, child_is, one_name_parts}
+use Rattle.files_mem.proofs.Prelude.{short, has_slash}
+use Rattle.std.proofs.Common.{length-append}
 use Rattle.files_mem.proofs.Nul.{is_nul, no_nul}
-use Rattle.path_text.proofs.Fronts.{has_slash}
 
 pub joined_front : (p m : List ℕ) → joined p m ≡ front p ++ m
 joined_front p m = sym (front-joined p m)

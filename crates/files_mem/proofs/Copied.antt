@@ -1,28 +1,12 @@
 -- What stands at and under a path, as a loop over the entries from that path on finds it.
-use Rattle.std.proofs.Common.{◌≡◌, ℕ, Bool, true, false, cond, ◌||◌, List, [], ◌∷◌, ◌++◌, map, Option, Some, None}
-use Rattle.std.proofs.Common.{refl, ap, ◌∙◌, sym, subst, nat_eq, is_some, length, arith}
-use Rattle.std.proofs.lemmas.Bool.{false≢true}
-use Rattle.std.specs.Prelude.{Result, Ok, Err, OnErr}
-use Rattle.std.specs.List.{AllByRecursion}
+use Rattle.files_mem.proofs.Prelude.{◌≡◌, ℕ, Bool, true, false, cond, ◌||◌, List, [], ◌∷◌, ◌++◌, map, Option, Some, None, refl, ap, ◌∙◌, sym, subst, nat_eq}
+use Rattle.files_mem.proofs.Prelude.{is_some, length, arith, false≢true, Result, Ok, Err, OnErr, AllByRecursion, keys_of, get, find, insert, remove, get-insert}
+use Rattle.files_mem.proofs.Prelude.{get-remove, get-from_entries, eq_by_cmp, is_le, Ordering, Less, Equal, Greater, pointwise, bytes_decides, sorted_head}
+use Rattle.files_mem.proofs.Prelude.{sorted_tail, path_cmp, is_within, is_under, refusal, path_cmp_total, path_cmp_ties, path_cmp_same, contiguous, preorder}
+use Rattle.files_mem.proofs.Prelude.{Files, Node, node_of, files_of, AllValid, copied, equal}
 use Rattle.std.specs.List.Sorted.{IsStrictlySortedBy}
-use Rattle.std.specs.Map.{keys_of}
-use Rattle.std.specs.FinMap.{get, find, insert, remove, get-insert, get-remove, get-from_entries}
-use Rattle.std.specs.Ordering.{eq_by_cmp, is_le}
-use Rattle.std.specs.declared.cmp.Ordering.{Ordering}
-use Rattle.std.specs.declared.cmp.Ordering.TheVariants.{Less, Equal, Greater}
-use Rattle.std.specs.Cmp.Lexicographic.{pointwise, bytes_decides}
-use Rattle.std.proofs.lemmas.Map.Keys.{sorted_head, sorted_tail}
-use Rattle.path_text.specs.Order.{path_cmp, is_within, is_under}
-use Rattle.path_text.specs.Path.{refusal}
-use Rattle.path_text.specs.Total.{path_cmp_total, path_cmp_ties, path_cmp_same}
-use Rattle.path_text.proofs.Under.{contiguous}
-use Rattle.path_text.proofs.Preordered.{preorder}
-use Rattle.outside.specs.Tree.{Files, Node}
 use Rattle.files_mem.specs.declared.nodes.Node as stored
-use Rattle.files_mem.specs.Stored.{node_of, files_of, AllValid}
-use Rattle.files_mem.specs.PrivateHeld.{copied}
 use Rattle.files_mem.proofs.Listed.{Entries, told, from, reach, reach_is, IsSorted, AllAfter, AllReady, ready_from, from_end, sorted_end, all_end}
-use Rattle.path_text.proofs.Moved.{equal}
 use Rattle.files_mem.proofs.Treed.{same_path}
 
 -- what the entries have at a path

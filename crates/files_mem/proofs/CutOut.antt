@@ -1,25 +1,10 @@
 -- A file that is cut out of a ground, and that is back.
-use Rattle.std.proofs.Common.{◌≡◌, ℕ, zero, suc, Bool, true, false, cond, ◌||◌, List, [], ◌∷◌, ◌++◌, Option, Some, None}
-use Rattle.std.proofs.Common.{refl, ap, ◌∙◌, sym, subst, is_some, slice_get, append-nil, arith}
-use Rattle.std.proofs.lemmas.Bool.{false≢true}
-use Rattle.std.proofs.lemmas.List.{drop_all}
-use Rattle.std.specs.Prelude.{IsTrue, Ok, ◌+◌, length}
-use Rattle.std.specs.FinMap.{get, insert, get-insert}
-use Rattle.std.specs.Cmp.Lexicographic.{bytes_decides}
-use Rattle.path_text.specs.Order.{is_under}
-use Rattle.path_text.specs.Path.{refusal, parent_of, level_of}
-use Rattle.path_text.specs.Total.{path_cmp_total, path_cmp_ties}
-use Rattle.outside.specs.Tree.{Files, Node, file, is_file, is_dir, content}
-use Rattle.outside.specs.declared.plots.WriteError.TheVariants.{WrongKind}
-use Rattle.outside.specs.Writes.{Area, all_but, is_open, write_refusal, spliced, time_of}
-use Rattle.outside.specs.Lease.{CanLease, in_tops, leased}
-use Rattle.outside.specs.Laid.{laid, get_laid}
-use Rattle.outside.specs.Parts.{IsPart}
-use Rattle.outside.specs.Spans.{IsRejoined}
-use Rattle.outside.proofs.Leased.{at_tree, get_part}
-use Rattle.files_mem.specs.Memory.{Memory, answered}
-use Rattle.files_mem.specs.PrivateHeld.{Lending, IsGround}
-use Rattle.files_mem.specs.Spanned.{IsCutOut}
+use Rattle.files_mem.proofs.Prelude.{◌≡◌, ℕ, zero, suc, Bool, true, false, cond, ◌||◌, List, [], ◌∷◌, ◌++◌, Option, Some, None, refl, ap, ◌∙◌, sym, subst}
+use Rattle.files_mem.proofs.Prelude.{is_some, slice_get, append-nil, arith, false≢true, drop_all, IsTrue, Ok, get, insert, get-insert, bytes_decides, is_under}
+use Rattle.files_mem.proofs.Prelude.{refusal, parent_of, level_of, path_cmp_total, path_cmp_ties, Files, Node, file, is_file, is_dir, content, WrongKind, Area}
+use Rattle.files_mem.proofs.Prelude.{all_but, is_open, write_refusal, spliced, time_of, CanLease, in_tops, leased, laid, get_laid, IsPart, IsRejoined, at_tree}
+use Rattle.files_mem.proofs.Prelude.{get_part, Memory, answered, Lending, IsGround, IsCutOut}
+use Rattle.std.specs.Prelude.{◌+◌, length}
 use Rattle.files_mem.proofs.Lending.{Leased, lease_all}
 use Rattle.files_mem.proofs.Parted.{write_part}
 use Rattle.files_mem.proofs.Treed.{not_root}

@@ -1,13 +1,6 @@
 -- The files that are out in spans.
-use Rattle.std.proofs.Common.{◌≡◌, ℕ, ◌+◌, ◌≤◌, true, false, cond, List, [], ◌∷◌, ◌++◌, length, refl, ap, arith}
-use Rattle.std.proofs.Common.{nat_eq, Option, Some, None, is_some}
-use Rattle.std.proofs.lemmas.Bool.{false≢true}
-use Rattle.std.proofs.lemmas.List.{length-append}
-use Rattle.std.specs.Prelude.{Result, Ok, Err, OnOk, OnErr}
-use Rattle.std.specs.Option.{option_map}
-use Rattle.std.specs.Cmp.Lexicographic.{pointwise}
-use Rattle.outside.specs.Writes.{Cut}
-use Rattle.outside.specs.Spans.{cuts_at, without_cut}
+use Rattle.files_mem.proofs.Prelude.{◌≡◌, ℕ, ◌+◌, ◌≤◌, true, false, cond, List, [], ◌∷◌, ◌++◌, length, refl, ap, arith, nat_eq, Option, Some, None, is_some}
+use Rattle.files_mem.proofs.Prelude.{false≢true, length-append, Result, Ok, Err, OnOk, OnErr, option_map, pointwise, Cut, cuts_at, without_cut}
 
 -- one file less is out
 pub one_cut_less : (path : List ℕ) (cut : List Cut) → is_some (cuts_at path cut) ≡ true → length (without_cut path cut) + 1 ≡ length cut

@@ -1,14 +1,7 @@
 -- What the map in memory has, as what the tree has.
-use Rattle.std.proofs.Common.{◌≡◌, ℕ, true, false, cond, List, [], ◌∷◌, map, Some, refl, ◌∙◌}
-use Rattle.std.specs.Option.{option_map}
-use Rattle.std.specs.Map.{lookup}
-use Rattle.std.specs.BTreeMap.{is_at}
-use Rattle.std.specs.Ordering.{eq_by_cmp}
-use Rattle.std.specs.FinMap.{get, find, get-from_entries}
-use Rattle.path_text.specs.Order.{path_cmp}
-use Rattle.path_text.specs.Total.{path_cmp_total}
+use Rattle.files_mem.proofs.Prelude.{◌≡◌, ℕ, true, false, cond, List, [], ◌∷◌, map, Some, refl, ◌∙◌, option_map, lookup, is_at, eq_by_cmp, get, find}
+use Rattle.files_mem.proofs.Prelude.{get-from_entries, path_cmp, path_cmp_total, node_of, files_of}
 use Rattle.files_mem.specs.declared.nodes.Node as stored
-use Rattle.files_mem.specs.Stored.{node_of, files_of}
 
 found : (q : List ℕ) (es : List (List ℕ × stored.Node))
     → find path_cmp q (map (λ e. (e.0, node_of e.1)) es) ≡ option_map node_of (lookup (is_at (path_cmp q)) es)

@@ -1,25 +1,12 @@
 -- What the map's calls do to the tree.
-use Rattle.std.proofs.Common.{◌≡◌, ℕ, Bool, true, false, cond, List, [], ◌∷◌, map, Option, Some, None, refl, ap, ◌∙◌, sym}
-use Rattle.std.specs.List.{AllZip}
-use Rattle.std.specs.declared.cmp.Ordering.TheVariants.{Less, Equal, Greater}
-use Rattle.std.specs.FinMap.{get, insert, remove, get-insert, get-remove, same_map, from_entries}
-use Rattle.std.specs.Map.{lookup, remove_entry, set_value}
-use Rattle.std.specs.BTreeMap.{is_at, insert_entry}
-use Rattle.std.specs.Ordering.{match_ordering}
-use Rattle.std.specs.Cmp.{eq_by_cmp_equiv}
-use Rattle.std.specs.Option.{option_map}
+use Rattle.files_mem.proofs.Prelude.{◌≡◌, ℕ, Bool, true, false, cond, List, [], ◌∷◌, map, Option, Some, None, refl, ap, ◌∙◌, sym, AllZip, Less, Equal, Greater}
+use Rattle.files_mem.proofs.Prelude.{get, insert, remove, get-insert, get-remove, same_map, from_entries, lookup, remove_entry, set_value, is_at, insert_entry}
+use Rattle.files_mem.proofs.Prelude.{match_ordering, eq_by_cmp_equiv, option_map, node_of, body_of, files_of, AllValid, Result, Ok, Err, OnOk, OnErr, eq_by_cmp}
+use Rattle.files_mem.proofs.Prelude.{bytes_decides, Files, Node, file, content, bytes_of, written, spliced, time_of, path_cmp, refusal, path_cmp_total}
+use Rattle.files_mem.proofs.Prelude.{path_cmp_same, path_cmp_ties}
 use Rattle.files_mem.specs.declared.nodes.Node as stored
-use Rattle.files_mem.specs.Stored.{node_of, body_of, files_of, AllValid}
 use Rattle.files_mem.proofs.Found.{get_is}
 use Rattle.files_mem.proofs.Listed.{told}
-use Rattle.std.specs.Prelude.{Result, Ok, Err, OnOk, OnErr}
-use Rattle.std.specs.Ordering.{eq_by_cmp}
-use Rattle.std.specs.Cmp.Lexicographic.{bytes_decides}
-use Rattle.outside.specs.Tree.{Files, Node, file, content, bytes_of}
-use Rattle.outside.specs.Writes.{written, spliced, time_of}
-use Rattle.path_text.specs.Order.{path_cmp}
-use Rattle.path_text.specs.Path.{refusal}
-use Rattle.path_text.specs.Total.{path_cmp_total, path_cmp_same, path_cmp_ties}
 
 pub inserted : (old new : List (List ℕ × stored.Node)) (p : List ℕ) (n : stored.Node) →
     ((q : List ℕ) → lookup (is_at (path_cmp q)) new ≡ cond (is_at (path_cmp p) q) (Some n) (lookup (is_at (path_cmp q)) old))

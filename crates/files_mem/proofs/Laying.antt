@@ -1,20 +1,8 @@
 -- A part copied, and laid over what was kept.
-use Rattle.std.proofs.Common.{◌≡◌, ℕ, ◌+◌, ◌<◌, ◌≤◌, Bool, true, false, cond, not, ◌||◌, List, [], ◌∷◌, ◌++◌, take, get_or, length, Option}
-use Rattle.std.proofs.Common.{Some, None, refl, ap, ◌∙◌, sym, is_some, arith, zero, suc}
-use Rattle.std.proofs.lemmas.Bool.{false≢true}
-use Rattle.std.specs.Prelude.{Result, Ok, Err, OnOk, OnErr}
-use Rattle.std.proofs.lemmas.List.{take_more, take_all}
-use Rattle.std.specs.List.{list_any}
-use Rattle.std.specs.FinMap.{get, empty, get-empty, same_map}
-use Rattle.path_text.specs.Order.{path_cmp, is_within}
-use Rattle.path_text.specs.Total.{path_cmp_total, path_cmp_same}
-use Rattle.outside.specs.Tree.{Files, Node}
-use Rattle.outside.specs.Lease.{in_tops, leased, kept, Joins, same_tops, without_tops}
-use Rattle.outside.specs.Writes.{Cut}
-use Rattle.outside.specs.Spans.{without_cut}
-use Rattle.outside.specs.Laid.{laid, get_laid}
-use Rattle.files_mem.specs.PrivateHeld.{copied, Back, Lending, laid_all}
-use Rattle.outside.proofs.Leased.{get_rest, get_part}
+use Rattle.files_mem.proofs.Prelude.{◌≡◌, ℕ, ◌+◌, ◌<◌, ◌≤◌, Bool, true, false, cond, not, ◌||◌, List, [], ◌∷◌, ◌++◌, take, get_or, length, Option, Some, None}
+use Rattle.files_mem.proofs.Prelude.{refl, ap, ◌∙◌, sym, is_some, arith, zero, suc, false≢true, Result, Ok, Err, OnOk, OnErr, take_more, take_all, list_any}
+use Rattle.files_mem.proofs.Prelude.{get, empty, get-empty, same_map, path_cmp, is_within, path_cmp_total, path_cmp_same, Files, Node, in_tops, leased, kept}
+use Rattle.files_mem.proofs.Prelude.{Joins, same_tops, without_tops, Cut, without_cut, laid, get_laid, copied, Back, Lending, laid_all, get_rest, get_part}
 
 -- what is copied into nothing is what is leased
 pub all_leased : (tops : List (List ℕ)) (files part : Files)

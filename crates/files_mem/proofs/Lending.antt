@@ -1,29 +1,13 @@
 -- What is out can come back, whatever a ground does meanwhile.
-use Rattle.std.proofs.Common.{◌≡◌, ℕ, zero, suc, Bool, true, false, cond, not, ◌&&◌, ◌||◌, List, [], ◌∷◌, ◌++◌}
-use Rattle.std.proofs.Common.{Some, None, is_some, refl, ap, ◌∙◌, sym, subst, map, nat_eq, slice_get, append_assoc}
-use Rattle.std.proofs.lemmas.Bool.{false≢true}
-use Rattle.std.specs.Prelude.{IsTrue, Result, Ok, Err, OnOk, OnErr}
-use Rattle.std.specs.List.{list_any, list_all, AllByRecursion}
-use Rattle.std.specs.FinMap.{get, insert, remove}
-use Rattle.std.specs.Ordering.{eq_by_cmp}
-use Rattle.std.specs.Cmp.Lexicographic.{pointwise, bytes_decides}
-use Rattle.path_text.specs.Order.{path_cmp, is_within}
-use Rattle.path_text.specs.Path.{refusal, parent_of}
-use Rattle.outside.specs.Tree.{Files, Node, IsTree, is_dir, is_root}
-use Rattle.outside.specs.Writes.{Area, Cut, all_but, all_out, is_open, is_apart, written, write_refusal, remove_file_refusal, remove_dir_refusal}
-use Rattle.outside.specs.Lease.{in_tops, leased, kept, HaveParents, CanLease, same_tops, without_tops}
-use Rattle.outside.specs.Parts.{AreTops, IsPart}
-use Rattle.outside.specs.Spans.{cuts_at, without_cut}
-use Rattle.outside.specs.Laid.{laid, get_laid}
-use Rattle.outside.proofs.Leased.{not_in_up, over_top, a_top, get_rest}
-use Rattle.path_text.proofs.Parents.{parent_under}
-use Rattle.path_text.proofs.Within.{within_up}
-use Rattle.outside.proofs.PartTrees.{leases_keep_trees}
-use Rattle.files_mem.specs.PrivateHeld.{Lending, IsLent, IsClear, AreClear, Lends, IsGround}
-use Rattle.files_mem.specs.Memory.{put_refusal_at}
+use Rattle.files_mem.proofs.Prelude.{◌≡◌, ℕ, zero, suc, Bool, true, false, cond, not, ◌&&◌, ◌||◌, List, [], ◌∷◌, ◌++◌, Some, None, is_some, refl, ap, ◌∙◌, sym}
+use Rattle.files_mem.proofs.Prelude.{subst, map, nat_eq, slice_get, append_assoc, false≢true, IsTrue, Result, Ok, Err, OnOk, OnErr, list_any, list_all}
+use Rattle.files_mem.proofs.Prelude.{AllByRecursion, get, insert, remove, eq_by_cmp, pointwise, bytes_decides, path_cmp, is_within, refusal, parent_of, Files}
+use Rattle.files_mem.proofs.Prelude.{Node, IsTree, is_dir, is_root, Area, Cut, all_but, all_out, is_open, is_apart, written, write_refusal, remove_file_refusal}
+use Rattle.files_mem.proofs.Prelude.{remove_dir_refusal, in_tops, leased, kept, HaveParents, CanLease, same_tops, without_tops, AreTops, IsPart, cuts_at}
+use Rattle.files_mem.proofs.Prelude.{without_cut, laid, get_laid, not_in_up, over_top, a_top, get_rest, parent_under, within_up, leases_keep_trees, Lending}
+use Rattle.files_mem.proofs.Prelude.{IsLent, IsClear, AreClear, Lends, IsGround, put_refusal_at, both}
 use Rattle.files_mem.proofs.Treed.{keeps_dir, same_path, put_tree, write_tree, take_file, take_dir, not_root, file_there, refused_not}
 use Rattle.files_mem.proofs.Treed.{off_here, can_write}
-use Rattle.path_text.proofs.Told.{both}
 
 -- a write
 

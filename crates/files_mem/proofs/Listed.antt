@@ -1,29 +1,12 @@
 -- The names of the children, as a loop over the entries finds them.
-use Rattle.std.proofs.Common.{◌≡◌, ℕ, ◌<◌, ◌≤◌, Bool, true, false, ◌&&◌, ◌⊎◌, inl, inr, List, [], ◌∷◌, ◌++◌, length, map, refl, ap, ◌∙◌, sym, subst}
-use Rattle.std.proofs.Common.{arith, cond, eqb, Some, None, append_assoc, append-nil, suc}
-use Rattle.std.proofs.lemmas.Bool.{false≢true}
-use Rattle.std.specs.List.{filter_map, AllByRecursion, cons_option, starts_with}
-use Rattle.std.specs.List.Sorted.{IsStrictlySortedBy}
-use Rattle.std.specs.Map.{keys_of}
-use Rattle.std.proofs.lemmas.Map.Keys.{sorted_head, sorted_tail}
-use Rattle.std.specs.Ordering.{is_le}
-use Rattle.std.specs.declared.cmp.Ordering.{Ordering}
-use Rattle.std.specs.declared.cmp.Ordering.TheVariants.{Less, Equal, Greater}
-use Rattle.std.specs.declared.ops.Bound.TheVariants.{Included, Unbounded}
-use Rattle.std.specs.BTreeMap.Range.{entries_between, range_contains}
-use Rattle.path_text.specs.Order.{path_cmp, front}
-use Rattle.path_text.proofs.Preorder.{before_all}
-use Rattle.path_text.specs.Total.{path_cmp_total}
-use Rattle.path_text.specs.Path.{refusal}
-use Rattle.outside.specs.Tree.{is_one_name, name_below, Node, names_in}
-use Rattle.outside.proofs.Children.{name_below-front}
-use Rattle.std.specs.FinMap.{entries, put, entries-insert, len-entries, len-empty}
-use Rattle.std.specs.FinMap.Entries.{by_order}
-use Rattle.std.specs.Ordering.{ordering_reverse}
-use Rattle.files_mem.specs.Stored.{files_of, node_of}
+use Rattle.files_mem.proofs.Prelude.{◌≡◌, ℕ, ◌<◌, ◌≤◌, Bool, true, false, ◌&&◌, ◌⊎◌, inl, inr, List, [], ◌∷◌, ◌++◌, length, map, refl, ap, ◌∙◌, sym, subst}
+use Rattle.files_mem.proofs.Prelude.{arith, cond, eqb, Some, None, append_assoc, append-nil, suc, false≢true, filter_map, AllByRecursion, cons_option}
+use Rattle.files_mem.proofs.Prelude.{starts_with, IsStrictlySortedBy, keys_of, sorted_head, sorted_tail, is_le, Ordering, Less, Equal, Greater, Included}
+use Rattle.files_mem.proofs.Prelude.{Unbounded, entries_between, range_contains, path_cmp, front, before_all, path_cmp_total, refusal, is_one_name, name_below}
+use Rattle.files_mem.proofs.Prelude.{Node, names_in, name_below-front, entries, put, entries-insert, len-entries, len-empty, by_order, ordering_reverse}
+use Rattle.files_mem.proofs.Prelude.{files_of, node_of, nil_from_length}
 use Rattle.files_mem.proofs.Between.{below_past, none_between, child_from, none_past, past_more, none_long, past_front}
 use Rattle.files_mem.specs.declared.nodes.Node as stored
-use Rattle.std.proofs.lemmas.List.{nil_from_length}
 
 abbrev pub Entries : Type 0
 Entries = List (List ℕ × stored.Node)

@@ -1,12 +1,6 @@
 -- A path holds no NUL.
-use Rattle.std.proofs.Common.{◌≡◌, ℕ, ◌<◌, Bool, true, false, ◌||◌, List, [], ◌∷◌, length, refl, ap, ◌∙◌, sym, arith, cond, Some, None}
-use Rattle.std.specs.Prelude.{◌==◌}
-use Rattle.std.specs.List.{list_any, slice_split, onto_first}
-use Rattle.std.specs.Option.{is_none}
-use Rattle.std.proofs.lemmas.Bool.Decides.{nat_tests}
-use Rattle.path_text.specs.Path.{is_slash, name_fault, first_fault, refusal}
-use Rattle.std.proofs.lemmas.Bool.{or_from}
-use Rattle.path_text.proofs.Joined.{some_part}
+use Rattle.files_mem.proofs.Prelude.{◌≡◌, ℕ, ◌<◌, Bool, true, false, ◌||◌, List, [], ◌∷◌, length, refl, ap, ◌∙◌, sym, arith, cond, Some, None, ◌==◌, list_any}
+use Rattle.files_mem.proofs.Prelude.{slice_split, onto_first, is_none, nat_tests, is_slash, name_fault, first_fault, refusal, or_from, some_part}
 
 abbrev pub is_nul : ℕ → Bool
 is_nul b = b == 0

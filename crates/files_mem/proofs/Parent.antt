@@ -1,23 +1,10 @@
 -- The path over a path.
-use Rattle.std.proofs.Common.{◌≡◌, ◌≢◌, ℕ, ◌+◌, ◌-◌, ◌<◌, true, false, not, cond, List, [], ◌∷◌, length, take, get_or, length-take, Option, Some}
-use Rattle.std.proofs.Common.{None, refl, ap, ◌∙◌, sym, arith, eqb}
-use Rattle.std.specs.Option.{MatchOption, option_map}
-use Rattle.std.specs.List.{before_last, suffix_len}
-use Rattle.std.proofs.lemmas.List.Sums.{suffix_len_is}
-use Rattle.std.proofs.lemmas.Bool.Decides.{nat_tests}
-use Rattle.std.specs.FinMap.{get}
-use Rattle.std.specs.Map.{lookup}
-use Rattle.std.specs.BTreeMap.{is_at}
-use Rattle.std.specs.Ordering.{eq_by_cmp}
-use Rattle.std.specs.Cmp.Lexicographic.{bytes_decides}
-use Rattle.path_text.specs.Order.{path_cmp}
-use Rattle.path_text.specs.Total.{path_cmp_ties}
-use Rattle.path_text.specs.declared.errors.PathError.{PathError}
-use Rattle.path_text.specs.Path.{is_slash, refusal, parent_of}
+use Rattle.files_mem.proofs.Prelude.{◌≡◌, ◌≢◌, ℕ, ◌+◌, ◌-◌, ◌<◌, true, false, not, cond, List, [], ◌∷◌, length, take, get_or, length-take, Option, Some, None}
+use Rattle.files_mem.proofs.Prelude.{refl, ap, ◌∙◌, sym, arith, eqb, MatchOption, option_map, before_last, suffix_len, suffix_len_is, nat_tests, get, lookup}
+use Rattle.files_mem.proofs.Prelude.{is_at, eq_by_cmp, bytes_decides, path_cmp, path_cmp_ties, PathError, is_slash, refusal, parent_of, node_of, files_of}
+use Rattle.files_mem.proofs.Prelude.{AllValid, no_slash}
 use Rattle.files_mem.specs.declared.nodes.Node as stored
-use Rattle.files_mem.specs.Stored.{node_of, files_of, AllValid}
 use Rattle.files_mem.proofs.Found.{get_is}
-use Rattle.path_text.proofs.Parts.{no_slash}
 
 on : (b : ℕ) → b ≡ 47 → not (is_slash b) ≡ false
 on b e = grind (arith, nat_tests)

@@ -1,22 +1,10 @@
 -- A part stays one, whatever is written in it.
-use Rattle.std.proofs.Common.{◌≡◌, ℕ, Bool, true, false, cond, not, ◌||◌, List, Option, Some, None, refl, ap, ◌∙◌, sym, subst, is_some, is_none}
-use Rattle.std.proofs.lemmas.Bool.{false≢true}
-use Rattle.std.specs.Prelude.{IsTrue, Result, Ok, Err, OnOk, OnErr}
-use Rattle.std.specs.FinMap.{get, insert, remove, get-remove}
-use Rattle.std.specs.Ordering.{eq_by_cmp}
-use Rattle.std.specs.Cmp.Lexicographic.{bytes_decides}
-use Rattle.path_text.specs.Order.{path_cmp}
-use Rattle.path_text.specs.Path.{refusal, parent_of}
-use Rattle.path_text.specs.Total.{path_cmp_total, path_cmp_ties}
-use Rattle.outside.specs.Tree.{Files, Node, is_dir, is_root}
-use Rattle.outside.specs.Writes.{under, is_open, is_top, written, write_refusal, remove_file_refusal, remove_dir_refusal}
-use Rattle.outside.specs.Lease.{in_tops}
-use Rattle.outside.specs.Parts.{IsPart}
-use Rattle.outside.proofs.Parents.{no_child}
-use Rattle.files_mem.specs.declared.errors.PutError.TheVariants.{Exists, NoParent}
-use Rattle.files_mem.specs.Memory.{put_refusal_at}
+use Rattle.files_mem.proofs.Prelude.{◌≡◌, ℕ, Bool, true, false, cond, not, ◌||◌, List, Option, Some, None, refl, ap, ◌∙◌, sym, subst, is_some, false≢true}
+use Rattle.files_mem.proofs.Prelude.{IsTrue, Result, Ok, Err, OnOk, OnErr, get, insert, remove, get-remove, eq_by_cmp, bytes_decides, path_cmp, refusal}
+use Rattle.files_mem.proofs.Prelude.{parent_of, path_cmp_total, path_cmp_ties, Files, Node, is_dir, is_root, under, is_open, is_top, written, write_refusal}
+use Rattle.files_mem.proofs.Prelude.{remove_file_refusal, remove_dir_refusal, in_tops, IsPart, no_child, Exists, NoParent, put_refusal_at, both}
+use Rattle.std.proofs.Common.{is_none}
 use Rattle.files_mem.proofs.Treed.{same_path, keeps_dir, elsewhere, off_here, file_there, no_dir, no_name, not_root, can_write}
-use Rattle.path_text.proofs.Told.{both}
 
 -- what has to be true of the node at the path that is written
 record Here (tops : List (List ℕ)) (new : Files) (p : List ℕ) : Type 0 where

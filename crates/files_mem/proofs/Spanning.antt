@@ -1,15 +1,9 @@
 -- Spans made of cuts, and joined again.
-use Rattle.std.proofs.Common.{◌≡◌, ℕ, cond, ◌+◌, ◌≤◌, ◌<◌, Bool, true, false, List, [], ◌∷◌, ◌++◌, length, map, take, get_or}
-use Rattle.std.proofs.Common.{refl, ap, ◌∙◌, sym, subst, arith, append_assoc, append-nil}
-use Rattle.std.proofs.lemmas.Bool.{false≢true}
-use Rattle.std.proofs.lemmas.List.{length-append, length-replicate, take_more}
-use Rattle.std.proofs.lemmas.List.Sums.{sum_by-cons, sum_by_more_le}
-use Rattle.std.specs.List.{sum_by}
-use Rattle.std.proofs.lemmas.List.Elements.{All-cons, All-tail}
-use Rattle.std.specs.Prelude.{Some, None, Result, Ok, Err, IfOk, is_some, All, replicate}
-use Rattle.outside.specs.Tree.{Files}
-use Rattle.outside.specs.Spans.{Piece, zeros_of, told_bytes, joined_bytes}
-use Rattle.files_mem.specs.Spanned.{Spanned, piece_of, held_by, blank, bytes_of_all}
+use Rattle.files_mem.proofs.Prelude.{◌≡◌, ℕ, cond, ◌+◌, ◌≤◌, ◌<◌, Bool, true, false, List, [], ◌∷◌, ◌++◌, length, map, take, get_or, refl, ap, ◌∙◌, sym, subst}
+use Rattle.files_mem.proofs.Prelude.{arith, append_assoc, append-nil, false≢true, length-append, length-replicate, take_more, sum_by-cons, sum_by_more_le}
+use Rattle.files_mem.proofs.Prelude.{sum_by, All-cons, All-tail, Result, Ok, Err, IfOk, All, replicate, Files, Piece, zeros_of, told_bytes, joined_bytes}
+use Rattle.files_mem.proofs.Prelude.{Spanned, piece_of, held_by, blank, bytes_of_all}
+use Rattle.std.specs.Prelude.{Some, None, is_some}
 
 length_all : (spans : List Spanned) → length (bytes_of_all spans) ≡ sum_by (λ span. length span.bytes) spans
 length_all [] = refl

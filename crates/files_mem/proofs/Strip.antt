@@ -1,9 +1,5 @@
-use Rattle.std.proofs.Common.{◌≡◌, ℕ, true, false, List, ◌++◌, length, drop, Option, Some, None, refl, ap, ◌∙◌, sym, eqb, IfNone, IfSome}
-use Rattle.std.specs.List.{starts_with}
-use Rattle.std.specs.Option.{MatchOption}
-use Rattle.std.specs.Str.Pattern.{FindsTextPrefix, StripsPrefix}
-use Rattle.path_text.proofs.Preordered.{begins}
-use denote.Ref.{Bor}
+use Rattle.files_mem.proofs.Prelude.{◌≡◌, ℕ, true, false, List, ◌++◌, length, drop, Option, Some, None, refl, ap, ◌∙◌, sym, eqb, IfNone, IfSome, starts_with}
+use Rattle.files_mem.proofs.Prelude.{MatchOption, FindsTextPrefix, StripsPrefix, begins, Bor}
 
 pub strip_off : (front text : List ℕ) (r : Option (Bor (List ℕ)))
     → MatchOption r (FindsTextPrefix front text None) (λ x. StripsPrefix (FindsTextPrefix front) text x.now)

@@ -1,23 +1,14 @@
 -- A tree stays one where a node is added in a directory.
-use Rattle.std.proofs.Common.{◌≡◌, ℕ, Bool, true, false, cond, ◌&&◌, ◌||◌, List, [], ◌∷◌, Option, Some, None, refl, ap, ◌∙◌, sym, subst, arith}
-use Rattle.std.specs.Prelude.{length, not, Result, Ok, Err, OnOk, OnErr}
-use Rattle.std.specs.Option.{is_none, is_some}
-use Rattle.std.specs.Ordering.{eq_by_cmp}
-use Rattle.std.specs.Cmp.Lexicographic.{bytes_decides}
-use Rattle.std.specs.FinMap.{get, insert, empty, remove, get-insert, get-remove, get-empty}
-use Rattle.std.proofs.lemmas.Bool.{false≢true, and_from, or_right}
-use Rattle.path_text.specs.Order.{path_cmp}
-use Rattle.path_text.specs.Path.{refusal, parent_of}
-use Rattle.path_text.specs.Total.{path_cmp_total, path_cmp_ties}
-use Rattle.outside.specs.Tree.{Files, Node, Body, dir, file, link, other, is_dir, is_dir_body, is_file, is_file_body, is_root, names_in, IsTree}
-use Rattle.outside.specs.Writes.{written, write_refusal, remove_file_refusal, remove_dir_refusal, is_open, in_area, Area}
-use Rattle.outside.proofs.Parents.{no_child}
-use Rattle.outside.specs.declared.plots.WriteError.TheVariants as write
+use Rattle.files_mem.proofs.Prelude.{◌≡◌, ℕ, Bool, true, false, cond, ◌&&◌, ◌||◌, List, [], ◌∷◌, Option, Some, None, refl, ap, ◌∙◌, sym, subst, arith, Result}
+use Rattle.files_mem.proofs.Prelude.{Ok, Err, OnOk, OnErr, is_none, eq_by_cmp, bytes_decides, get, insert, empty, remove, get-insert, get-remove, get-empty}
+use Rattle.files_mem.proofs.Prelude.{false≢true, and_from, or_right, path_cmp, refusal, parent_of, path_cmp_total, path_cmp_ties, Files, Node, Body, dir, file}
+use Rattle.files_mem.proofs.Prelude.{link, other, is_dir, is_dir_body, is_file, is_file_body, is_root, names_in, written, write_refusal, remove_file_refusal}
+use Rattle.files_mem.proofs.Prelude.{remove_dir_refusal, is_open, in_area, Area, no_child, nat_tests, Exists, NoParent, put_refusal, empty_files, both}
+use Rattle.std.specs.Prelude.{length, not}
+use Rattle.std.specs.Option.{is_some}
 use Rattle.std.specs.Bool.{IsTrue}
-use Rattle.std.proofs.lemmas.Bool.Decides.{nat_tests}
-use Rattle.files_mem.specs.declared.errors.PutError.TheVariants.{Exists, NoParent}
-use Rattle.files_mem.specs.Memory.{put_refusal, empty_files}
-use Rattle.path_text.proofs.Told.{both}
+use Rattle.outside.specs.Tree.{IsTree}
+use Rattle.outside.specs.declared.plots.WriteError.TheVariants as write
 
 pub same_path : (q p : List ℕ) → eq_by_cmp path_cmp q p ≡ true → q ≡ p
 same_path q p e = (bytes_decides q p).0 (path_cmp_ties q p ∙ e)

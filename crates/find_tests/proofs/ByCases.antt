@@ -1,17 +1,8 @@
 -- The glob relation has the cases that a manual says.
-use Rattle.std.proofs.Common.{◌≡◌, ℕ, Bool, true, false, ◌||◌, ◌↔◌, List, [], ◌∷◌, ◌++◌, ◌==◌, take, drop, refl, sym, ap, ◌∙◌, subst}
-use Rattle.find_tests.specs.declared.signs.Sign.{Sign}
-use Rattle.find_tests.specs.declared.signs.Sign.TheVariants.{Plain, Literal}
-use Rattle.find_tests.specs.declared.pieces.Class.{Class}
-use Rattle.find_tests.specs.declared.pieces.Class.TheVariants.{Any, Only}
-use Rattle.find_tests.specs.declared.pieces.Piece.{Piece}
-use Rattle.find_tests.specs.declared.pieces.Piece.TheVariants.{AnyText, OneOf}
-use Rattle.find_tests.specs.Signs.{signs_of}
-use Rattle.find_tests.specs.Glob.{behind_negation, behind_members, bracket, piece_at, behind_piece, pieces_of}
-use Rattle.find_tests.specs.Matching.{matches, some_rest, takes, chars_match}
-use Rattle.find_tests.specs.Cases.{FirstAndRest, HasDivision, is_special, GlobByCases}
-use Rattle.std.proofs.lemmas.Bool.{or_right, or_parts, and_parts}
-use Rattle.std.proofs.lemmas.List.{take-append-drop}
+use Rattle.find_tests.proofs.Prelude.{◌≡◌, ℕ, Bool, true, false, ◌||◌, ◌↔◌, List, [], ◌∷◌, ◌++◌, ◌==◌, take, drop, refl, sym, ap, ◌∙◌, subst, Sign, Plain}
+use Rattle.find_tests.proofs.Prelude.{Literal, Class, Any, Only, Piece, AnyText, OneOf, signs_of, behind_negation, behind_members, bracket, piece_at}
+use Rattle.find_tests.proofs.Prelude.{behind_piece, pieces_of, matches, some_rest, takes, chars_match, FirstAndRest, HasDivision, is_special, GlobByCases}
+use Rattle.find_tests.proofs.Prelude.{or_right, or_parts, and_parts, take-append-drop}
 use Rattle.find_tests.proofs.Matched.{some_rest_at, some_rest_found}
 use Rattle.find_tests.proofs.Parsed.{pieces_of-nil, pieces_of-cons}
 

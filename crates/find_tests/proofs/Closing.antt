@@ -1,10 +1,6 @@
 -- Where a bracket is not closed, none behind it is.
-use Rattle.std.proofs.Common.{◌≡◌, Bool, true, false, cond, List, [], ◌∷◌, drop, refl, sym, subst}
-use Rattle.std.proofs.lemmas.Bool.{false≢true}
-use Rattle.find_tests.specs.declared.signs.Sign.{Sign}
-use Rattle.find_tests.specs.Signs.{is_sign}
-use Rattle.find_tests.specs.Glob.{has_close, is_closed, behind_negation}
-use Rattle.find_tests.specs.Private.Brackets.{NoneCloses}
+use Rattle.find_tests.proofs.Prelude.{◌≡◌, Bool, true, false, cond, List, [], ◌∷◌, drop, refl, sym, subst, false≢true, Sign, is_sign, has_close, is_closed}
+use Rattle.find_tests.proofs.Prelude.{behind_negation, NoneCloses}
 
 none_behind : (s : Sign) (rest : List Sign) → has_close (s ∷ rest) ≡ false → has_close rest ≡ false
 none_behind s rest e = by_test (is_sign 93 s) e

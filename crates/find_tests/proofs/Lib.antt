@@ -1,3 +1,4 @@
+mod Prelude
 pub mod Matched
 pub mod Parsed
 pub mod Closing

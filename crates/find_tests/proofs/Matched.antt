@@ -1,14 +1,7 @@
 -- From the front of a pattern's pieces to the whole: a later `*` makes up for a longer front of an earlier one.
-use Rattle.std.proofs.Common.{◌≡◌, ℕ, zero, suc, ◌+◌, Bool, true, false, ◌&&◌, inl, inr, List, [], ◌∷◌, length, drop, refl, sym, ap, ◌∙◌, subst}
-use Rattle.std.proofs.Common.{arith}
-use Rattle.std.specs.Cmp.{both_ways}
-use Rattle.std.proofs.lemmas.Bool.{or_right, or_cases, and_parts}
-use Rattle.std.proofs.lemmas.List.{nil_from_length, drop-drop}
-use Rattle.find_tests.specs.declared.pieces.Class.{Class}
-use Rattle.find_tests.specs.declared.pieces.Piece.{Piece}
-use Rattle.find_tests.specs.declared.pieces.Piece.TheVariants.{AnyText, OneOf}
-use Rattle.find_tests.specs.Matching.{some_rest, matches}
-use Rattle.find_tests.specs.Private.Front.{takes_first}
+use Rattle.find_tests.proofs.Prelude.{◌≡◌, ℕ, zero, suc, ◌+◌, Bool, true, false, ◌&&◌, inl, inr, List, [], ◌∷◌, length, drop, refl, sym, ap, ◌∙◌, subst, arith}
+use Rattle.find_tests.proofs.Prelude.{both_ways, or_right, or_cases, and_parts, nil_from_length, drop-drop, Class, Piece, AnyText, OneOf, some_rest, matches}
+use Rattle.find_tests.proofs.Prelude.{takes_first}
 
 -- an answer that leads to a false one is false
 false_before : (a b : Bool) → (a ≡ true → b ≡ true) → b ≡ false → a ≡ false

@@ -1,10 +1,8 @@
 -- How the pieces of a pattern follow one another, and the members of a bracket.
-use Rattle.std.proofs.Common.{◌≡◌, ℕ, zero, suc, ◌≤◌, true, false, cond, List, [], ◌∷◌, ◌++◌, append_assoc, append-nil, length, refl, sym, ap, ◌∙◌}
-use Rattle.std.proofs.Common.{arith}
-use Rattle.find_tests.specs.declared.signs.Sign.{Sign}
-use Rattle.find_tests.specs.declared.pieces.Piece.{Piece}
-use Rattle.find_tests.specs.Signs.{is_sign}
-use Rattle.find_tests.specs.Glob.{behind_close, behind_negation, behind_members, is_bracket, piece_at, behind_piece, pieces_up_to, pieces_of}
+use Rattle.find_tests.proofs.Prelude.{◌≡◌, ℕ, zero, suc, ◌≤◌, true, false, cond, List, [], ◌∷◌, ◌++◌, append_assoc, append-nil, length, refl, sym, ap, ◌∙◌}
+use Rattle.find_tests.proofs.Prelude.{arith, Sign, Piece, is_sign, behind_close, behind_negation, behind_members, is_bracket, piece_at, behind_piece}
+use Rattle.find_tests.proofs.Prelude.{pieces_up_to}
+use Rattle.find_tests.specs.Glob.{pieces_of}
 
 length-behind_close : (signs : List Sign) → length (behind_close signs) ≤ length signs
 length-behind_close [] = omega arith

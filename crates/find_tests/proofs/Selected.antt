@@ -1,10 +1,6 @@
 -- Without a test each entry that has a stat is selected.
-use Rattle.std.proofs.Common.{◌≡◌, ℕ, ◌+◌, Bool, true, false, cond, List, [], ◌∷◌, length, filter, ap, ap₂, sym, refl, ◌∙◌, arith}
-use Rattle.std.specs.Prelude.{None, Some, is_some}
-use Rattle.std.specs.List.{count_by}
-use Rattle.std.proofs.lemmas.List.Sums.{sum_by-cons, count_by-le-length}
-use Rattle.entry_pages.specs.declared.entries.Entry.{Entry}
-use Rattle.find_tests.specs.Tests.{is_selected, meets_all}
+use Rattle.find_tests.proofs.Prelude.{◌≡◌, ℕ, ◌+◌, Bool, true, false, cond, List, [], ◌∷◌, length, filter, ap, ap₂, sym, refl, ◌∙◌, arith, None, Some, is_some}
+use Rattle.find_tests.proofs.Prelude.{count_by, sum_by-cons, count_by-le-length, Entry, is_selected, meets_all}
 
 -- where a test holds of as many elements as there are, it holds of all
 filter_whole : {X : Type 0} (p : X → Bool) (xs : List X) → count_by p xs ≡ length xs → filter p xs ≡ xs

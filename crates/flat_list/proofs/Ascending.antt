@@ -1,10 +1,6 @@
 -- Lists that ascend strictly, and one element more behind them.
-use Rattle.std.proofs.Common.{◌≡◌, List, [], ◌∷◌, ◌++◌}
-use Rattle.std.specs.List.{AllByRecursion}
+use Rattle.flat_list.proofs.Prelude.{◌≡◌, List, [], ◌∷◌, ◌++◌, AllByRecursion, Ordering, Less, all_more}
 use Rattle.std.specs.List.Sorted.{IsStrictlySortedBy}
-use Rattle.std.specs.declared.cmp.Ordering.{Ordering}
-use Rattle.std.specs.declared.cmp.Ordering.TheVariants.{Less}
-use Rattle.whole_lines.proofs.Lines.{all_more}
 
 module _ {K : Type 0} (cmp : K → K → Ordering) where
   all_front : (P : K → Type 0) (xs ys : List K) → AllByRecursion P (xs ++ ys) → AllByRecursion P xs

@@ -1,8 +1,6 @@
 -- The entries of runs, of a piece and of what waits, as they move.
-use Rattle.std.proofs.Common.{arith, ◌≡◌, ◌-◌, List, [], ◌∷◌, ◌++◌, length, take, ap, sym, subst, ◌∙◌}
-use Rattle.std.specs.List.Sorted.{IsPermutation}
-use Rattle.std.proofs.lemmas.List.{append_assoc, append-nil}
-use Rattle.std.proofs.lemmas.List.Sorted.{IsPermutation-append_left, IsPermutation-append_right, IsPermutation-append_comm, IsPermutation-trans}
+use Rattle.flat_list.proofs.Prelude.{arith, ◌≡◌, ◌-◌, List, [], ◌∷◌, ◌++◌, length, take, ap, sym, subst, ◌∙◌, IsPermutation, append_assoc, append-nil}
+use Rattle.flat_list.proofs.Prelude.{IsPermutation-append_left, IsPermutation-append_right, IsPermutation-append_comm, IsPermutation-trans}
 use Rattle.flat_list.proofs.Merged.{flat, flat_more}
 
 module _ {A : Type 0} where

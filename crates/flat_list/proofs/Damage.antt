@@ -1,26 +1,13 @@
 -- Where the lines of a text stop to be those of a list file: what holds of all files of whole lines, for entries and their targets.
-use Rattle.std.proofs.Common.{◌≡◌, ℕ, suc, ◌+◌, ◌-◌, ◌<◌, ◌≤◌, ◌^◌, inl, inr, List, [], ◌∷◌, ◌++◌, length, take}
-use Rattle.std.proofs.Common.{get_or, Option, Some, None}
-use Rattle.std.proofs.Common.{refl, ap, sym, ◌∙◌, subst, arith, append-nil, length-append, ◌*◌}
-use Rattle.std.specs.List.{AllByRecursion, flat_map}
-use Rattle.std.proofs.Common.{eqb}
-use Rattle.std.proofs.lemmas.Bool.{cases_lt, false≢true}
-use Rattle.std.proofs.lemmas.Grind.{flat_map-append}
-use Rattle.std.proofs.lemmas.List.{take-take}
-use Rattle.path_text.specs.Escape.{ReadingUndoesWriting}
-use Rattle.outside.specs.Links.{LinkReadingUndoesWriting}
-use Rattle.entry_pages.specs.declared.entries.Entry.{Entry}
-use Rattle.flat_list.specs.declared.versions.Version.{Version}
-use Rattle.flat_list.specs.declared.versions.Version.TheVariants.{One, Two}
-use Rattle.flat_list.specs.Spelling.{text_of, header_text, target_text, target_lines, lines_by, entry_lines, lines_for, IsEntry, IsKnown, IsList, Follows}
-use Rattle.flat_list.specs.Spelling.{SpellsAs}
-use Rattle.whole_lines.specs.Lines.{line, end_text, lines_of}
-use Rattle.flat_list.specs.Spelling.{Begins, max_entries, IsTooLong, IsRefused}
-use Rattle.whole_lines.proofs.Lines.{all_more, line_same, joined_lines}
+use Rattle.flat_list.proofs.Prelude.{◌≡◌, ℕ, suc, ◌+◌, ◌-◌, ◌<◌, ◌≤◌, ◌^◌, inl, inr, List, [], ◌∷◌, ◌++◌, length, take, get_or, Option, Some, None, refl, ap}
+use Rattle.flat_list.proofs.Prelude.{sym, ◌∙◌, subst, arith, length-append, ◌*◌, AllByRecursion, flat_map, eqb, cases_lt, false≢true, flat_map-append}
+use Rattle.flat_list.proofs.Prelude.{take-take, ReadingUndoesWriting, LinkReadingUndoesWriting, Entry, Version, One, Two, text_of, header_text, target_text}
+use Rattle.flat_list.proofs.Prelude.{target_lines, lines_by, entry_lines, lines_for, IsEntry, IsKnown, IsList, Follows, SpellsAs, line, end_text, lines_of}
+use Rattle.flat_list.proofs.Prelude.{Begins, max_entries, IsTooLong, IsRefused, all_more, line_same, joined_lines, Form, cons_parts}
+use Rattle.std.proofs.Common.{append-nil}
 use Rattle.flat_list.proofs.Lines.{one_text, one_target, end_apart, target_apart, end_no_target}
 use Rattle.flat_list.proofs.Pieces.{Piece, own, target, target_pieces, pieces_of, piece_line, IsPiece, IsFile, own_count, own_more, own_is, each_of, follows_in}
 use Rattle.whole_lines.proofs.WholeLines as whole
-use Rattle.whole_lines.proofs.WholeLines.{Form, cons_parts}
 
 pub list_more : (es : List Entry) (e : Entry) → IsList es → IsEntry e → Follows es e → length es + 1 < 2 ^ 64 → IsList (es ++ e ∷ [])
 list_more es e is one follows few = record {

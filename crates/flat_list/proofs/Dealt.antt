@@ -1,15 +1,8 @@
 -- Turns of a loop over entries, and levels and pieces with one entry more.
-use Rattle.std.proofs.Common.{◌≡◌, ℕ, zero, suc, ◌+◌, ◌<◌, ◌≤◌, ◌%◌, Bool, true, false, cond, List, [], ◌∷◌, ◌++◌, length}
-use Rattle.std.proofs.Common.{map, set, take, get_or}
-use Rattle.std.proofs.Common.{max, refl, ap, sym, ◌∙◌, arith, eqb}
-use Rattle.std.proofs.lemmas.List.{take_more, take_all, map-append, map-id, map-set, get_or-map, length-map, length-take-le}
-use Rattle.std.proofs.lemmas.List.FromFn.{map-range_with_len_more, length-map-range_with_len, get_or-map-range_with_len}
-use Rattle.std.specs.List.{range_with_len}
-use Rattle.std.proofs.lemmas.Bool.Decides.{nat_tests}
-use Rattle.path_text.specs.Path.{level_of}
-use Rattle.entry_pages.specs.declared.entries.Entry.{Entry}
-use Rattle.flat_list.specs.Orders.{level_count, places_from, places_at, dealt_from, dealt}
-use Rattle.whole_lines.proofs.Words.{eqb_same}
+use Rattle.flat_list.proofs.Prelude.{◌≡◌, ℕ, zero, suc, ◌+◌, ◌<◌, ◌≤◌, ◌%◌, Bool, true, false, cond, List, [], ◌∷◌, ◌++◌, length, map, set, take, get_or, max}
+use Rattle.flat_list.proofs.Prelude.{refl, ap, sym, ◌∙◌, arith, eqb, take_more, take_all, map-append, map-id, map-set, get_or-map, length-map, length-take-le}
+use Rattle.flat_list.proofs.Prelude.{map-range_with_len_more, length-map-range_with_len, get_or-map-range_with_len, range_with_len, nat_tests, level_of, Entry}
+use Rattle.flat_list.proofs.Prelude.{level_count, places_from, places_at, dealt_from, dealt, eqb_same}
 
 pub count_more : (xs : List Entry) (e : Entry) → level_count (xs ++ e ∷ []) ≡ max (level_count xs) (level_of e.path + 1)
 count_more [] e = omega arith

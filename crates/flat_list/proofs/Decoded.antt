@@ -1,41 +1,22 @@
 -- The steps of reading a list file.
-use Rattle.std.proofs.Common.{◌≡◌, ℕ, suc, ◌+◌, ◌-◌, ◌<◌, ◌≤◌, Bool, true, false, cond, List, [], ◌∷◌, ◌++◌, length}
-use Rattle.std.proofs.Common.{take, Option, Some}
-use Rattle.std.proofs.Common.{None, length-append, refl, ap, sym, ◌∙◌, subst, arith, append_assoc}
-use Rattle.std.specs.List.Sorted.{IsStrictlySortedBy}
-use Rattle.std.specs.Ordering.{is_lt}
-use Rattle.std.specs.Str.{IsUtf8}
-use Rattle.std.specs.declared.cmp.Ordering.{Ordering}
-use Rattle.std.specs.declared.cmp.Ordering.TheVariants.{Less, Equal, Greater}
-use Rattle.std.specs.Prelude.{slice_get, not, is_none, IfSome, ◌&&◌, ◌||◌, ◌==◌}
-use Rattle.std.specs.Option.{option_map}
-use Rattle.std.proofs.lemmas.Bool.{false≢true, and_parts, and_from}
-use Rattle.std.proofs.lemmas.List.{map-append, nil_from_length}
-use Rattle.path_text.specs.Order.{path_cmp}
-use Rattle.path_text.specs.Total.{path_cmp_total}
-use Rattle.entry_pages.specs.declared.entries.Entry.{Entry}
-use Rattle.flat_list.specs.declared.reading.Told.{Told}
-use Rattle.flat_list.specs.declared.versions.Version.{Version}
-use Rattle.flat_list.specs.declared.versions.Version.TheVariants.{Two}
-use Rattle.flat_list.specs.Spelling.{text_of, header_text, target_text, target_lines, lines_by, entry_lines, IsTarget, IsEntry, is_marked, is_new, is_known}
-use Rattle.flat_list.specs.Spelling.{IsKnown, paths, IsList, Follows, Spells, max_entries}
-use Rattle.whole_lines.specs.Lines.{line, end_text, lines_of}
-use Rattle.flat_list.specs.Spelling.{IsTooLong, IsRefused}
-use Rattle.whole_lines.specs.Words.{cut, path_from, end_at, ◌>>=◌}
-use Rattle.flat_list.specs.Private.Reading.{told_at, told_entry, path_behind, if_behind, path_after, entry_at, entry_behind, IsLast, Adds, NoneFollows}
-use Rattle.entry_pages.specs.Entries.{is_sized, shape_by, has_target, is_shaped}
-use Rattle.flat_list.specs.Private.Reading.{target_at, takes_target, target_and, target_line, target_behind, with_target, behind_target, line_count, found_at}
-use Rattle.flat_list.specs.Private.Reading.{IsSettled}
-use Rattle.whole_lines.proofs.Words.{IsFree, cut_takes, pair_is}
+use Rattle.flat_list.proofs.Prelude.{◌≡◌, ℕ, suc, ◌+◌, ◌-◌, ◌<◌, ◌≤◌, Bool, true, false, cond, List, [], ◌∷◌, ◌++◌, length, take, Option, Some, None}
+use Rattle.flat_list.proofs.Prelude.{length-append, refl, ap, sym, ◌∙◌, subst, arith, IsStrictlySortedBy, is_lt, IsUtf8, Ordering, Less, Equal, Greater}
+use Rattle.flat_list.proofs.Prelude.{slice_get, not, is_none, IfSome, ◌||◌, ◌==◌, option_map, false≢true, and_parts, and_from, map-append, nil_from_length}
+use Rattle.flat_list.proofs.Prelude.{path_cmp, path_cmp_total, Entry, Told, Version, Two, text_of, header_text, target_text, target_lines, lines_by}
+use Rattle.flat_list.proofs.Prelude.{entry_lines, IsTarget, IsEntry, is_marked, is_new, is_known, IsKnown, paths, IsList, Follows, Spells, max_entries, line}
+use Rattle.flat_list.proofs.Prelude.{end_text, lines_of, IsTooLong, IsRefused, cut, path_from, end_at, ◌>>=◌, told_at, told_entry, if_behind, path_after}
+use Rattle.flat_list.proofs.Prelude.{IsLast, Adds, NoneFollows, is_sized, shape_by, has_target, is_shaped, target_at, takes_target, target_and, target_behind}
+use Rattle.flat_list.proofs.Prelude.{with_target, behind_target, line_count, found_at, IsSettled, IsFree, cut_takes, pair_is, end_takes, end_again, line_same}
+use Rattle.flat_list.proofs.Prelude.{line_first, free_uncut, torn, no_lines, all_more, cons_parts, slice_end}
+use Rattle.std.proofs.Common.{append_assoc}
+use Rattle.std.specs.Prelude.{◌&&◌}
+use Rattle.flat_list.specs.Private.Reading.{path_behind, entry_at, entry_behind}
+use Rattle.flat_list.specs.Private.Reading.{target_line}
 use Rattle.flat_list.proofs.Lines.{entry_takes, entry_again, target_takes, target_again}
-use Rattle.whole_lines.proofs.Ends.{end_takes, end_again}
 use Rattle.flat_list.proofs.Pieces.{Piece, own, target, piece_line, pieces_of, IsPiece, IsFile, IsLine, own_count, own_is, one_list, bare_more}
 use Rattle.flat_list.proofs.Pieces.{TakesTarget, target_follows}
-use Rattle.whole_lines.proofs.Lines.{line_same, line_first, free_uncut, torn, no_lines, all_more}
 use Rattle.flat_list.proofs.Ascending.{sorted_none, sorted_one, sorted_last, sorted_more}
 use Rattle.flat_list.proofs.Damage.{Undoes, list_more, lines_more, Stands, refused_here, refused_after, spelled}
-use Rattle.whole_lines.proofs.WholeLines.{cons_parts}
-use Rattle.entry_pages.proofs.Inverse.{slice_end}
 
 -- ---- a path behind the others
 

@@ -1,24 +1,12 @@
 -- The steps of writing a list file.
-use Rattle.std.proofs.Common.{◌≡◌, ℕ, ◌+◌, ◌<◌, ◌≤◌, ◌^◌, List, [], ◌∷◌, ◌++◌, length, take, ap, sym, ◌∙◌, subst}
-use Rattle.std.proofs.Common.{append_assoc, arith}
-use Rattle.std.specs.Prelude.{codes, true, ◌&&◌, is_none}
-use Rattle.std.specs.Fmt.{decimal}
-use Rattle.std.specs.List.{AllByRecursion, flat_map}
-use Rattle.std.proofs.lemmas.Fmt.{decimal_digit}
-use Rattle.std.specs.List.Sorted.{IsStrictlySortedBy}
-use Rattle.std.proofs.lemmas.List.{take_all}
-use Rattle.std.proofs.lemmas.Grind.{flat_map-append}
-use Rattle.path_text.specs.Order.{path_cmp}
-use Rattle.entry_pages.specs.declared.entries.Entry.{Entry}
-use Rattle.entry_pages.specs.declared.entries.Mark.{Mark}
+use Rattle.flat_list.proofs.Prelude.{◌≡◌, ℕ, ◌+◌, ◌<◌, ◌≤◌, ◌^◌, List, [], ◌∷◌, ◌++◌, length, take, ap, sym, ◌∙◌, subst, arith, codes, is_none, decimal}
+use Rattle.flat_list.proofs.Prelude.{AllByRecursion, flat_map, decimal_digit, IsStrictlySortedBy, take_all, flat_map-append, path_cmp, Entry, Mark, mark_word}
+use Rattle.flat_list.proofs.Prelude.{header_text, lines_by, entry_lines, IsEntry, IsKnown, paths, SpellsAs, line, end_text, Two, all_more, flat_end, or_true}
+use Rattle.std.proofs.Common.{append_assoc}
+use Rattle.std.specs.Prelude.{true, ◌&&◌}
 use Rattle.entry_pages.specs.declared.entries.Mark.TheVariants as marks
-use Rattle.flat_list.specs.Spelling.{mark_word, header_text, lines_by, entry_lines, IsEntry, IsKnown, paths, SpellsAs}
-use Rattle.whole_lines.specs.Lines.{line, end_text}
-use Rattle.flat_list.specs.declared.versions.Version.TheVariants.{Two}
 use Rattle.flat_list.proofs.Damage.{lines_more}
-use Rattle.whole_lines.proofs.Lines.{all_more, flat_end}
 use Rattle.flat_list.proofs.Dealt.{Turn, taken}
-use Rattle.outside.proofs.Leased.{or_true}
 
 -- what is written of so many entries: the header and their lines
 pub record Written (text : List ℕ) (es : List Entry) (i : ℕ) : Type 0 where

@@ -1,16 +1,9 @@
 -- The lines of a list file, and those that begin none.
-use Rattle.std.proofs.Common.{◌≡◌, ℕ, List, [], ◌∷◌, ◌++◌, length, Option, Some, None, refl, ap, ◌∙◌}
+use Rattle.flat_list.proofs.Prelude.{◌≡◌, ℕ, List, [], ◌∷◌, ◌++◌, length, Option, Some, None, refl, ap, ◌∙◌, AllByRecursion, Entry, Version, One, Two, text_of}
+use Rattle.flat_list.proofs.Prelude.{header_text, target_text, target_lines, entry_lines, lines_for, IsEntry, SpellsAs, line, end_text, lines_of, IsFree}
+use Rattle.flat_list.proofs.Prelude.{end_free, all_more, IsWhole, lines_first}
 use Rattle.std.proofs.Common.{append_assoc}
-use Rattle.std.specs.List.{AllByRecursion}
-use Rattle.entry_pages.specs.declared.entries.Entry.{Entry}
-use Rattle.flat_list.specs.declared.versions.Version.{Version}
-use Rattle.flat_list.specs.declared.versions.Version.TheVariants.{One, Two}
-use Rattle.flat_list.specs.Spelling.{text_of, header_text, target_text, target_lines, entry_lines, lines_for, IsEntry, SpellsAs}
-use Rattle.whole_lines.specs.Lines.{line, end_text, lines_of}
-use Rattle.whole_lines.proofs.Words.{IsFree}
 use Rattle.flat_list.proofs.Lines.{text_free, target_free}
-use Rattle.whole_lines.proofs.Ends.{end_free}
-use Rattle.whole_lines.proofs.Lines.{all_more, IsWhole, lines_first}
 use Rattle.flat_list.proofs.Pieces.{all_join}
 
 -- ---- the lines of a list's text

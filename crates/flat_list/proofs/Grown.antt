@@ -1,15 +1,8 @@
 -- A turn of the loop that reads a list file.
-use Rattle.std.proofs.Common.{◌≡◌, ◌∙◌, refl, ap, sym, subst, arith, ℕ, ◌+◌, ◌<◌, ◌≤◌, Bool, true, false, cond, List, [], ◌∷◌, length}
-use Rattle.std.proofs.Common.{Option, Some, None, length-append}
-use Rattle.std.specs.Prelude.{IfSome, IfNone}
-use Rattle.whole_lines.specs.Lines.{lines_of}
-use Rattle.whole_lines.specs.Words.{cut, ◌>>=◌}
-use Rattle.entry_pages.specs.declared.entries.Entry.{Entry}
-use Rattle.flat_list.specs.declared.versions.Version.{Version}
-use Rattle.flat_list.specs.Spelling.{entry_lines, max_entries}
-use Rattle.flat_list.specs.Private.Reading.{entry_at, IsLast, IsSettled, Adds, target_at, takes_target, target_and, target_line, target_behind, with_target}
-use Rattle.flat_list.specs.Private.Reading.{behind_target, line_count, found_at}
-use Rattle.whole_lines.proofs.Words.{cut_takes, pair_is}
+use Rattle.flat_list.proofs.Prelude.{◌≡◌, ◌∙◌, refl, ap, sym, subst, arith, ℕ, ◌+◌, ◌<◌, ◌≤◌, Bool, true, false, cond, List, [], ◌∷◌, length, Option, Some}
+use Rattle.flat_list.proofs.Prelude.{None, length-append, IfSome, IfNone, lines_of, cut, ◌>>=◌, Entry, Version, entry_lines, max_entries, entry_at, IsLast}
+use Rattle.flat_list.proofs.Prelude.{IsSettled, Adds, target_at, takes_target, target_and, target_line, target_behind, with_target, behind_target, line_count}
+use Rattle.flat_list.proofs.Prelude.{found_at, cut_takes, pair_is}
 use Rattle.flat_list.proofs.Damage.{Undoes, Stands}
 use Rattle.flat_list.proofs.Decoded.{Reads, goes_on, line_is}
 

@@ -1,10 +1,6 @@
 -- Two parts of a list of lists, each moved, and moved again as one.
-use Rattle.std.proofs.Common.{◌≡◌, ℕ, List, ◌++◌, take, drop, ap, ap₂, sym, subst, ◌∙◌}
-use Rattle.std.specs.List.{flat_map}
-use Rattle.std.specs.List.Sorted.{IsPermutation}
-use Rattle.std.proofs.lemmas.Grind.{flat_map-append}
-use Rattle.std.proofs.lemmas.List.{take-append-drop}
-use Rattle.std.proofs.lemmas.List.Sorted.{IsPermutation-append, IsPermutation-trans}
+use Rattle.flat_list.proofs.Prelude.{◌≡◌, ℕ, List, ◌++◌, take, drop, ap, ap₂, sym, subst, ◌∙◌, flat_map, IsPermutation, flat_map-append, take-append-drop}
+use Rattle.flat_list.proofs.Prelude.{IsPermutation-append, IsPermutation-trans}
 
 module _ {L A : Type 0} (f : L → List A) where
   parted : (logs front back : List L) (n : ℕ) → front ≡ take n logs → back ≡ drop n logs → flat_map f front ++ flat_map f back ≡ flat_map f logs

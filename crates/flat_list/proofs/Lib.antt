@@ -1,3 +1,4 @@
+mod Prelude
 pub mod Dealt
 pub mod Ordered
 pub mod Times

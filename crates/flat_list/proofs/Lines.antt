@@ -1,40 +1,18 @@
 -- The text of a line is read as what was written, and no other text is.
-use Rattle.std.proofs.Common.{◌≡◌, ℕ, ◌<◌, ◌^◌, ◌⊎◌, inl, inr, Bool, true, false, cond, ltb, eqb, ◌&&◌, List, ◌∷◌, ◌++◌}
-use Rattle.std.proofs.Common.{length, get_or, Option}
-use Rattle.std.proofs.Common.{Some, None, Result, Ok, Err, refl, ap, sym, ◌∙◌, subst, arith}
-use Rattle.std.specs.Prelude.{IfSome, is_none, codes}
-use Rattle.std.specs.Str.{IsUtf8, is_utf8, bytes_eq}
-use Rattle.std.specs.Fmt.{decimal}
-use Rattle.std.specs.Cmp.Lexicographic.{bytes_decides}
-use Rattle.std.specs.Prelude.{nat_eq, drop, ◌==◌, ◌||◌}
-use Rattle.std.specs.List.{starts_with}
-use Rattle.std.proofs.lemmas.Slice.Eq.{starts_is}
-use Rattle.std.proofs.lemmas.Str.{is_utf8-from_IsUtf8}
-use Rattle.std.proofs.lemmas.Bool.{false≢true, and_parts, and_from}
-use Rattle.std.proofs.lemmas.Bool.Decides.{nat_tests, Decides-eqb}
-use Rattle.path_text.specs.Escape.{escape, good_len, unescaped, ReadingUndoesWriting}
-use Rattle.whole_lines.proofs.Escapes.{utf8_escape, escape_free, free-append}
-use Rattle.outside.specs.declared.trees.Kind.{Kind}
+use Rattle.flat_list.proofs.Prelude.{◌≡◌, ℕ, ◌<◌, ◌^◌, ◌⊎◌, inl, inr, Bool, true, false, cond, ltb, eqb, ◌&&◌, List, ◌∷◌, ◌++◌, length, get_or, Option, Some}
+use Rattle.flat_list.proofs.Prelude.{None, Result, Ok, Err, refl, ap, sym, ◌∙◌, subst, arith, IfSome, is_none, codes, IsUtf8, is_utf8, bytes_eq, decimal}
+use Rattle.flat_list.proofs.Prelude.{bytes_decides, nat_eq, ◌==◌, ◌||◌, starts_with, starts_is, is_utf8-from_IsUtf8, false≢true, and_parts, and_from, nat_tests}
+use Rattle.flat_list.proofs.Prelude.{Decides-eqb, escape, good_len, unescaped, ReadingUndoesWriting, utf8_escape, escape_free, free-append, Kind, Stat, Entry}
+use Rattle.flat_list.proofs.Prelude.{Mark, Told, link_refusal, link_of, link_reading, LinkReadingUndoesWriting, LinkTextError, Version, size_by, is_sized}
+use Rattle.flat_list.proofs.Prelude.{shape_by, has_target, time_of, kind_by, kind_word, time_word, mark_word, text_of, target_text, IsTarget, IsEntry}
+use Rattle.flat_list.proofs.Prelude.{is_marked, is_new, end_text, ◌>>=◌, number_of, word_at, path_from, is_told, told_if, told_entry, link_ok, IsFree}
+use Rattle.flat_list.proofs.Prelude.{bind_some, pair_is, word_takes, word_again, number_again, number_takes, decimal_free, path_takes, path_again}
+use Rattle.std.specs.Prelude.{drop}
 use Rattle.outside.specs.declared.trees.Kind.TheVariants as kind
-use Rattle.outside.specs.declared.trees.Stat.{Stat}
-use Rattle.entry_pages.specs.declared.entries.Entry.{Entry}
-use Rattle.entry_pages.specs.declared.entries.Mark.{Mark}
 use Rattle.entry_pages.specs.declared.entries.Mark.TheVariants as mark
-use Rattle.flat_list.specs.declared.reading.Told.{Told}
-use Rattle.outside.specs.Links.{link_refusal, link_of, link_reading, LinkReadingUndoesWriting}
-use Rattle.outside.specs.declared.links.LinkTextError.{LinkTextError}
 use Rattle.outside.specs.declared.links.LinkTextError.TheVariants as link
-use Rattle.flat_list.specs.declared.versions.Version.{Version}
-use Rattle.entry_pages.specs.Entries.{size_by, is_sized, shape_by, has_target}
-use Rattle.flat_list.specs.Orders.{time_of}
-use Rattle.flat_list.specs.Spelling.{kind_by, kind_word, time_word, mark_word, text_of, target_text, IsTarget, IsEntry, is_marked, is_new}
-use Rattle.whole_lines.specs.Lines.{end_text}
-use Rattle.whole_lines.specs.Words.{◌>>=◌, number_of, word_at, path_from}
-use Rattle.flat_list.specs.Private.Reading.{time_from, kind_from, mark_from, stat_from, is_told, told_if, told_at, told_entry}
-use Rattle.flat_list.specs.Private.Reading.{entry_at, link_ok, target_from, target_at}
-use Rattle.whole_lines.proofs.Words.{IsFree, bind_some, pair_is, word_takes, word_again}
-use Rattle.whole_lines.proofs.Numbers.{number_again, number_takes, decimal_free}
-use Rattle.whole_lines.proofs.Paths.{path_takes, path_again}
+use Rattle.flat_list.specs.Private.Reading.{time_from, kind_from, mark_from, stat_from, told_at}
+use Rattle.flat_list.specs.Private.Reading.{entry_at, target_from, target_at}
 use Rattle.flat_list.proofs.Pieces.{IsLine, bare_is}
 
 -- ---- words

@@ -1,11 +1,7 @@
 -- Lists of lists whose elements move, one or some at a time.
-use Rattle.std.proofs.Common.{◌≡◌, ℕ, zero, suc, ◌<◌, List, [], ◌∷◌, ◌++◌, length, set, get_or, ap, sym, subst, ◌∙◌, arith}
-use Rattle.std.specs.List.{flat_map}
-use Rattle.std.specs.List.Sorted.{IsPermutation}
-use Rattle.std.proofs.lemmas.Grind.{flat_map-append}
-use Rattle.std.proofs.lemmas.List.{append_assoc, append-nil}
-use Rattle.std.proofs.lemmas.List.Sorted.{IsPermutation-refl, IsPermutation-trans, IsPermutation-append_left, IsPermutation-append_right}
-use Rattle.std.proofs.lemmas.List.Sorted.{IsPermutation-append_comm}
+use Rattle.flat_list.proofs.Prelude.{◌≡◌, ℕ, zero, suc, ◌<◌, List, [], ◌∷◌, ◌++◌, length, set, get_or, ap, sym, subst, ◌∙◌, arith, flat_map, IsPermutation}
+use Rattle.flat_list.proofs.Prelude.{flat_map-append, append_assoc, append-nil, IsPermutation-refl, IsPermutation-trans, IsPermutation-append_left}
+use Rattle.flat_list.proofs.Prelude.{IsPermutation-append_right, IsPermutation-append_comm}
 
 module _ {A : Type 0} where
   abbrev pub flat : List (List A) → List A

@@ -1,28 +1,14 @@
 -- A path that has all but its last name from the path before it.
-use Rattle.std.proofs.Common.{◌≡◌, ℕ, zero, suc, ◌+◌, ◌-◌, ◌/◌, ◌%◌, ◌<◌, ◌≤◌, ◌⊎◌, inl, inr, true, false, cond}
-use Rattle.std.proofs.Common.{◌&&◌, ◌||◌, eqb, List, [], ◌∷◌, ◌++◌}
-use Rattle.std.proofs.Common.{length, get_or, take, drop, Some, None, refl, ap, sym, ◌∙◌, subst, arith, add-one, get_or-drop}
-use Rattle.std.specs.Prelude.{nat_eq, nat_le, ◌==◌}
-use Rattle.std.specs.List.{list_all, list_any, common_prefix_len}
-use Rattle.std.specs.Ordering.{is_lt}
-use Rattle.std.specs.declared.cmp.Ordering.{Ordering}
-use Rattle.std.specs.Str.{IsAscii, is_utf8}
-use Rattle.std.proofs.lemmas.Bool.{and_parts, and_right, cases_lt, false_from_ne_true}
-use Rattle.std.proofs.lemmas.Bool.Decides.{nat_tests}
-use Rattle.std.proofs.lemmas.List.{take-append-drop, take_all, length-take-le, length-drop}
-use Rattle.std.proofs.lemmas.List.Folds.{list_all-append}
-use Rattle.std.proofs.lemmas.Str.{IsUtf8-from_ascii, is_utf8-from_IsUtf8}
-use Rattle.std.proofs.Math.Seq.{drop-cons}
-use Rattle.memchr.specs.Find.{IsLastByte, is_byte}
-use Rattle.path_text.specs.Path.{is_slash, name_fault, refusal, first_fault, joined}
-use Rattle.path_text.specs.Order.{path_cmp}
-use Rattle.path_text.specs.Escape.{ReadingUndoesWriting, escape, is_escaped, hex_digit, reading}
-use Rattle.path_text.proofs.Joined.{one_name, refusal_joined, split_name}
-use Rattle.path_text.proofs.Parts.{before_made}
-use Rattle.path_text.proofs.Words.{behind, rest_of}
-use Rattle.flat_list.specs.Private.Reading.{is_plain, IsFront, IsPlainName, IsNear, path_behind, if_behind}
-use Rattle.whole_lines.specs.Words.{path_from, ok_of, ◌>>=◌}
-use Rattle.entry_pages.proofs.Inverse.{prefix_same}
+use Rattle.flat_list.proofs.Prelude.{◌≡◌, ℕ, zero, suc, ◌+◌, ◌-◌, ◌/◌, ◌%◌, ◌<◌, ◌≤◌, ◌⊎◌, inl, inr, true, false, cond, ◌&&◌, eqb, List, [], ◌∷◌, ◌++◌, length}
+use Rattle.flat_list.proofs.Prelude.{get_or, take, drop, Some, None, refl, ap, sym, ◌∙◌, subst, arith, add-one, get_or-drop, nat_eq, nat_le, ◌==◌, list_all}
+use Rattle.flat_list.proofs.Prelude.{list_any, common_prefix_len, is_lt, Ordering, IsAscii, is_utf8, and_parts, and_right, cases_lt, false_from_ne_true}
+use Rattle.flat_list.proofs.Prelude.{nat_tests, take-append-drop, take_all, length-take-le, length-drop, list_all-append, IsUtf8-from_ascii}
+use Rattle.flat_list.proofs.Prelude.{is_utf8-from_IsUtf8, drop-cons, IsLastByte, is_byte, is_slash, name_fault, refusal, first_fault, joined, path_cmp}
+use Rattle.flat_list.proofs.Prelude.{ReadingUndoesWriting, escape, is_escaped, hex_digit, reading, one_name, refusal_joined, split_name, before_made, behind}
+use Rattle.flat_list.proofs.Prelude.{rest_of, is_plain, IsFront, IsPlainName, IsNear, if_behind, ok_of, ◌>>=◌, prefix_same}
+use Rattle.std.proofs.Common.{◌||◌}
+use Rattle.flat_list.specs.Private.Reading.{path_behind}
+use Rattle.whole_lines.specs.Words.{path_from}
 
 -- ---- bytes that stand for themselves
 

@@ -1,15 +1,8 @@
 -- The orders of a sort are total orders.
-use Rattle.std.proofs.Common.{◌≡◌, Bool, true, false, List, sym, subst}
-use Rattle.std.specs.Cmp.{IsTotalOrder}
-use Rattle.std.specs.Cmp.Lexicographic.{options_total}
-use Rattle.std.specs.List.Sorted.{IsPermutation}
-use Rattle.std.proofs.lemmas.Cmp.{on_total, then_total, back_total, nat_cmp_total, nat_list_cmp_total}
-use Rattle.path_text.specs.Path.{base_of}
-use Rattle.path_text.specs.Total.{path_cmp_total}
-use Rattle.entry_pages.specs.declared.entries.Entry.{Entry}
-use Rattle.flat_list.specs.declared.ordering.Field.{Field}
+use Rattle.flat_list.proofs.Prelude.{◌≡◌, Bool, true, false, List, sym, subst, IsTotalOrder, options_total, IsPermutation, on_total, then_total, back_total}
+use Rattle.flat_list.proofs.Prelude.{nat_cmp_total, nat_list_cmp_total, base_of, path_cmp_total, Entry, Field, by_path, by_field, turned, sort_order, size_of}
+use Rattle.flat_list.proofs.Prelude.{time_of, kind_of}
 use Rattle.flat_list.specs.declared.ordering.Field.TheVariants as field
-use Rattle.flat_list.specs.Orders.{by_path, by_field, turned, sort_order, size_of, time_of, kind_of}
 
 by_path_total : IsTotalOrder by_path
 by_path_total = on_total (λ e. e.path) path_cmp_total

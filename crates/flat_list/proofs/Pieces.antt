@@ -1,21 +1,9 @@
 -- The lines of a list file one by one: each is an entry's own, or that of the target of the entry before it.
-use Rattle.std.proofs.Common.{◌≡◌, ℕ, ◌+◌, ◌≤◌, true, ◌&&◌, ◌||◌, List, [], ◌∷◌, ◌++◌, length, Option, Some}
-use Rattle.std.proofs.Common.{None, refl, ap, sym, ◌∙◌}
-use Rattle.std.proofs.Common.{subst, arith, append_assoc, append-nil}
-use Rattle.std.specs.Prelude.{is_none, IfSome}
-use Rattle.std.specs.List.{AllByRecursion, flat_map}
-use Rattle.std.specs.List.Sorted.{IsStrictlySortedBy}
-use Rattle.std.proofs.lemmas.Bool.{and_parts, and_from}
-use Rattle.std.proofs.lemmas.Grind.{flat_map-append}
-use Rattle.path_text.specs.Order.{path_cmp}
-use Rattle.entry_pages.specs.declared.entries.Entry.{Entry}
-use Rattle.flat_list.specs.declared.versions.Version.{Version}
-use Rattle.entry_pages.specs.Entries.{has_target}
-use Rattle.flat_list.specs.Spelling.{text_of, target_text, IsTarget, IsEntry, is_new, IsKnown, paths, IsList}
-use Rattle.whole_lines.specs.Lines.{line}
+use Rattle.flat_list.proofs.Prelude.{◌≡◌, ℕ, ◌+◌, ◌≤◌, true, ◌&&◌, List, [], ◌∷◌, ◌++◌, length, Option, Some, None, refl, ap, sym, ◌∙◌, subst, arith, is_none}
+use Rattle.flat_list.proofs.Prelude.{IfSome, AllByRecursion, flat_map, IsStrictlySortedBy, and_parts, and_from, flat_map-append, path_cmp, Entry, Version}
+use Rattle.flat_list.proofs.Prelude.{has_target, text_of, target_text, IsTarget, IsEntry, is_new, IsKnown, paths, IsList, line, cons_parts, same_from_push}
+use Rattle.std.proofs.Common.{◌||◌, append_assoc, append-nil}
 use Rattle.flat_list.proofs.Ascending.{sorted_front}
-use Rattle.whole_lines.proofs.WholeLines.{cons_parts}
-use Rattle.std.proofs.lemmas.List.{same_from_push}
 
 pub data Piece : Type 0 where
   own : Entry → Piece

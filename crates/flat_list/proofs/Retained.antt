@@ -1,8 +1,6 @@
 -- A test that is asked of one element more.
-use Rattle.std.proofs.Common.{◌≡◌, refl, ap, sym, ◌∙◌, Bool, true, false, cond, List, [], ◌∷◌, ◌++◌, length, ◌+◌, subst}
-use Rattle.std.proofs.Common.{length-append, arith}
-use Rattle.std.specs.List.{items_where_true}
-use Rattle.std.specs.List.Retain.{ReturnsInTurn, IsFiltered}
+use Rattle.flat_list.proofs.Prelude.{◌≡◌, refl, ap, sym, ◌∙◌, Bool, true, false, cond, List, [], ◌∷◌, ◌++◌, length, ◌+◌, subst, length-append, arith}
+use Rattle.flat_list.proofs.Prelude.{items_where_true, ReturnsInTurn, IsFiltered}
 
 module _ {X P : Type 0} (R : P → X → Bool → P → Type 0) where
   -- what a test that started as p, and is now q, kept of some elements

@@ -1,12 +1,8 @@
 -- What is left of a list that is read to its end.
-use Rattle.std.proofs.Common.{◌≡◌, ℕ, ◌+◌, ◌-◌, ◌<◌, ◌≤◌, Bool, true, false, not, List, [], ◌∷◌, ◌++◌, length, drop}
-use Rattle.std.proofs.Common.{ap, sym, ◌∙◌, arith}
-use Rattle.std.specs.Prelude.{Some, slice_get, nat_lt, if◌then◌else◌}
-use Rattle.std.proofs.lemmas.Bool.Decides.{nat_tests}
-use Rattle.std.proofs.lemmas.List.{drop_more, drop_all, append_assoc}
-use Rattle.std.proofs.lemmas.Option.{get_or_from_slice_get, slice_get_within}
-use Rattle.entry_pages.specs.declared.entries.Entry.{Entry}
-use Rattle.flat_list.specs.Private.Left.{left_of}
+use Rattle.flat_list.proofs.Prelude.{◌≡◌, ℕ, ◌+◌, ◌-◌, ◌<◌, ◌≤◌, Bool, true, false, List, [], ◌∷◌, ◌++◌, length, drop, ap, sym, ◌∙◌, arith, slice_get, nat_lt}
+use Rattle.flat_list.proofs.Prelude.{if◌then◌else◌, nat_tests, drop_more, drop_all, append_assoc, get_or_from_slice_get, slice_get_within, Entry, left_of}
+use Rattle.std.proofs.Common.{not}
+use Rattle.std.specs.Prelude.{Some}
 
 -- a cursor took a step, if there was one to take
 pub record Stepped (old new : List Entry × ℕ) (more : Bool) : Type 0 where

@@ -1,9 +1,7 @@
 -- A target's word and its reading.
-use Rattle.std.proofs.Common.{◌≡◌, Bool, true, false, cond, List, ℕ, None, refl, ap}
-use Rattle.std.specs.Str.{IsUtf8, is_utf8}
-use Rattle.std.proofs.lemmas.Str.{is_utf8-from_IsUtf8, IsUtf8-from_is_utf8}
-use Rattle.outside.specs.Links.{link_reading}
-use Rattle.flat_list.specs.Private.Reading.{target_from, link_ok}
+use Rattle.flat_list.proofs.Prelude.{◌≡◌, Bool, true, false, cond, List, ℕ, None, refl, ap, IsUtf8, is_utf8, is_utf8-from_IsUtf8, IsUtf8-from_is_utf8}
+use Rattle.flat_list.proofs.Prelude.{link_reading, link_ok}
+use Rattle.flat_list.specs.Private.Reading.{target_from}
 
 pub text_target : (word : List ℕ) → IsUtf8 word → target_from word ≡ link_ok (link_reading word)
 unfolding target_from

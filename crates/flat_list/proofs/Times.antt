@@ -1,12 +1,7 @@
 -- A word that is a number tells a time.
-use Rattle.std.proofs.Common.{◌≡◌, ℕ, Bool, true, false, cond, List, get_or, Some, None, refl, ap, ◌∙◌, arith}
-use Rattle.std.specs.Prelude.{codes}
-use Rattle.std.specs.Str.{bytes_eq}
-use Rattle.std.specs.Fmt.{decimal}
-use Rattle.std.specs.Cmp.Lexicographic.{bytes_decides}
-use Rattle.whole_lines.specs.Words.{◌>>=◌, cut, number_of, word_at}
-use Rattle.whole_lines.proofs.Words.{bind_some}
-use Rattle.whole_lines.proofs.Numbers.{number_none, first_digit}
+use Rattle.flat_list.proofs.Prelude.{◌≡◌, ℕ, Bool, true, false, cond, List, get_or, Some, None, refl, ap, ◌∙◌, arith, codes, bytes_eq, decimal, bytes_decides}
+use Rattle.flat_list.proofs.Prelude.{◌>>=◌, cut, number_of, bind_some, number_none, first_digit}
+use Rattle.whole_lines.specs.Words.{word_at}
 use Rattle.flat_list.specs.Private.Reading.{time_from}
 
 dash : number_of (codes "-") ≡ None

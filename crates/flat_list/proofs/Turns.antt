@@ -1,10 +1,7 @@
 -- A cursor that passes an entry takes a turn of a loop over its list.
-use Rattle.std.proofs.Common.{◌≡◌, ℕ, ◌+◌, ◌-◌, ◌<◌, ◌≤◌, Bool, true, false, List, length, refl, ap, sym, subst}
-use Rattle.std.proofs.Common.{◌∙◌, arith}
-use Rattle.std.specs.Prelude.{Some, slice_get, nat_lt, if◌then◌else◌}
-use Rattle.std.proofs.lemmas.Bool.Decides.{nat_tests}
-use Rattle.std.proofs.lemmas.Option.{get_or_from_slice_get, slice_get_within}
-use Rattle.entry_pages.specs.declared.entries.Entry.{Entry}
+use Rattle.flat_list.proofs.Prelude.{◌≡◌, ℕ, ◌+◌, ◌-◌, ◌<◌, ◌≤◌, Bool, true, false, List, length, refl, ap, sym, subst, ◌∙◌, arith, slice_get, nat_lt}
+use Rattle.flat_list.proofs.Prelude.{if◌then◌else◌, nat_tests, get_or_from_slice_get, slice_get_within, Entry}
+use Rattle.std.specs.Prelude.{Some}
 use Rattle.flat_list.proofs.Dealt.{Turn}
 
 -- a cursor over a list passed an entry

@@ -1,20 +1,12 @@
 -- A list has one text of a version, a text is one list's, and of the answers about a text one alone is true.
-use Rattle.std.proofs.Common.{◌≡◌, ℕ, zero, suc, ◌+◌, ◌-◌, ◌<◌, inl, inr, List, [], ◌∷◌, ◌++◌, length, take, refl, ap, sym}
-use Rattle.std.proofs.Common.{◌∙◌, subst, arith}
+use Rattle.flat_list.proofs.Prelude.{◌≡◌, ℕ, zero, suc, ◌+◌, ◌-◌, ◌<◌, inl, inr, List, [], ◌∷◌, ◌++◌, length, take, refl, ap, sym, ◌∙◌, subst, arith, cases_lt}
+use Rattle.flat_list.proofs.Prelude.{append_cancel_left, Entry, Version, line, end_text, lines_of, header_text, entry_lines, lines_for, SpellsAs, Spells}
+use Rattle.flat_list.proofs.Prelude.{Begins, IsDamaged, max_entries, IsTooLong, SpellsOne, RefusesExactly, no_lines, cons_parts}
 use Rattle.std.proofs.Common.{append-nil}
-use Rattle.std.proofs.lemmas.Bool.{cases_lt}
-use Rattle.std.proofs.lemmas.List.{append_cancel_left}
-use Rattle.entry_pages.specs.declared.entries.Entry.{Entry}
-use Rattle.flat_list.specs.declared.versions.Version.{Version}
-use Rattle.whole_lines.specs.Lines.{line, end_text, lines_of}
-use Rattle.flat_list.specs.Spelling.{header_text, entry_lines, lines_for, SpellsAs, Spells, Begins, IsDamaged, max_entries, IsTooLong}
-use Rattle.flat_list.specs.Spelling.{SpellsOne, RefusesExactly}
 use Rattle.flat_list.proofs.Files.{list_lines}
-use Rattle.whole_lines.proofs.Lines.{no_lines}
 use Rattle.flat_list.proofs.Pieces.{pieces_of, one_list, each_of}
 use Rattle.flat_list.proofs.Damage.{Undoes, pieces, end_line, end_is, is_final, same_lines, file, same_version, not_long, begins_less}
 use Rattle.whole_lines.proofs.WholeLines as whole
-use Rattle.whole_lines.proofs.WholeLines.{cons_parts}
 
 own_lines : (v : Version) (a : List ℕ) (es : List Entry) → SpellsAs v a es → lines_of a ≡ lines_for v es
 own_lines v a es s = ap lines_of (sym (append-nil a)) ∙ list_lines v a [] es s

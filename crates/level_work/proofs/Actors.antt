@@ -1,8 +1,6 @@
 -- The actors of the lots before and after some work.
-use Rattle.std.proofs.Common.{◌≡◌, ℕ, zero, suc, ◌<◌, ◌≤◌, List, [], ◌∷◌, map, length, Some, refl, ap, ◌∙◌, sym, arith, slice_get}
-use Rattle.std.specs.Prelude.{slice_index_or}
-use Rattle.level_work.specs.Private.Crews.{SameActors}
-use Rattle.level_work.specs.declared.lots.Lot.{Lot}
+use Rattle.level_work.proofs.Prelude.{◌≡◌, ℕ, zero, suc, ◌<◌, ◌≤◌, List, [], ◌∷◌, map, length, Some, refl, ap, ◌∙◌, sym, arith, slice_get, slice_index_or}
+use Rattle.level_work.proofs.Prelude.{SameActors, Lot}
 use Rattle.level_work.proofs.Working.{same_some}
 
 first : {Y : Type 0} → Y → List Y → Y

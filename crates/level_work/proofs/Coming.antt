@@ -1,22 +1,8 @@
 -- Fates that may come where the actors act, for a share, a level and all levels.
-use Rattle.std.proofs.Common.{◌≡◌, ◌⊎◌, inl, inr, ℕ, ◌+◌, ◌<◌, ◌%◌, true, List, [], length, map, Some, refl, ap, ◌∙◌, sym, subst, arith, slice_get}
-use Rattle.std.specs.Prelude.{slice_index_or}
-use Rattle.std.proofs.lemmas.Bool.{false≢true}
-use Rattle.std.proofs.lemmas.List.{length-map}
-use Rattle.std.proofs.lemmas.Option.{slice_get_within, get_or_from_slice_get}
-use Rattle.path_text.specs.Path.{level_of}
-use Rattle.level_work.specs.Chain.{AllBelow, is_level_done, mark_at, level_at}
-use Rattle.level_work.specs.Fates.{ComesAt, EachMayCome, MayCome, place_of}
-use Rattle.level_work.specs.Levels.{FailsWith}
-use Rattle.level_work.specs.Private.Coming.{OneCame, HaveCome, Came, LevelCame, CameSofar}
-use Rattle.level_work.specs.Private.Crews.{AreShares, Dealt}
-use Rattle.level_work.specs.Private.Dealing.{AreInTurn, AreOnLevel}
-use Rattle.level_work.specs.Private.Lots.{IsAt}
-use Rattle.level_work.specs.Private.Steps.{TellsLevel}
-use Rattle.level_work.specs.declared.items.Item.{Item}
-use Rattle.level_work.specs.declared.items.Fate.{Fate}
-use Rattle.level_work.specs.declared.items.Order.{Order}
-use Rattle.level_work.specs.declared.lots.Lot.{Lot}
+use Rattle.level_work.proofs.Prelude.{◌≡◌, ◌⊎◌, inl, inr, ℕ, ◌+◌, ◌<◌, ◌%◌, true, List, [], length, map, Some, refl, ap, ◌∙◌, sym, subst, arith, slice_get}
+use Rattle.level_work.proofs.Prelude.{slice_index_or, false≢true, length-map, slice_get_within, get_or_from_slice_get, level_of, AllBelow, is_level_done}
+use Rattle.level_work.proofs.Prelude.{mark_at, level_at, ComesAt, EachMayCome, MayCome, place_of, FailsWith, OneCame, HaveCome, Came, LevelCame, CameSofar}
+use Rattle.level_work.proofs.Prelude.{AreShares, Dealt, AreInTurn, AreOnLevel, IsAt, TellsLevel, Item, Fate, Order, Lot}
 use Rattle.level_work.proofs.Actors.{worked_actors}
 use Rattle.level_work.proofs.Crewed.{map_get}
 use Rattle.level_work.proofs.Likes.{Like}

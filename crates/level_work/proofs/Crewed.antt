@@ -1,29 +1,11 @@
 -- One level by several actors, put together.
-use Rattle.std.proofs.Common.{◌≡◌, ◌⊎◌, inl, inr, ℕ, zero, suc, ◌<◌, true, false, List, [], ◌∷◌, ◌++◌, map, length, Option, Some, None, IfSome, refl}
-use Rattle.std.proofs.Common.{ap, ◌∙◌, sym, subst, arith, slice_get, is_some}
-use Rattle.std.proofs.lemmas.Bool.{false≢true}
-use Rattle.std.proofs.lemmas.Option.{slice_get_within}
-use Rattle.std.specs.Prelude.{slice_index_or, OnOk, Result, Ok, Err}
-use Rattle.outside.specs.Tree.{Files}
-use Rattle.outside.specs.Writes.{Area, under}
-use Rattle.path_text.specs.Path.{level_of}
-use Rattle.outside.specs.Lease.{in_tops, tops_of}
-use Rattle.std.specs.Prelude.{◌↔◌}
-use Rattle.level_work.specs.declared.items.Fate.TheVariants as fate
-use Rattle.level_work.specs.Acts.{Deed}
-use Rattle.level_work.specs.Levels.{AreItems, FailsWith}
-use Rattle.level_work.specs.Chain.{OneLevel}
-use Rattle.level_work.specs.Private.Steps.{TellsLevel, SameButLevel}
-use Rattle.level_work.specs.Private.Lots.{IsAt, HasWorked, SameButFirst, part_tree, part_area}
-use Rattle.level_work.specs.Private.Crews.{Comes, stays, comes, Dealt, AreShares, AreOut, AllReady, AllTell, ShowAll, AllBack, SameShares, Stored}
-use Rattle.level_work.specs.Private.Crews.{AreUnder, tops_in, tops_out}
-use Rattle.std.specs.FinMap.{get}
+use Rattle.level_work.proofs.Prelude.{◌≡◌, ◌⊎◌, inl, inr, ℕ, zero, suc, ◌<◌, true, false, List, [], ◌∷◌, ◌++◌, map, length, Option, Some, None, IfSome, refl}
+use Rattle.level_work.proofs.Prelude.{ap, ◌∙◌, sym, subst, arith, slice_get, is_some, false≢true, slice_get_within, slice_index_or, OnOk, Result, Ok, Err}
+use Rattle.level_work.proofs.Prelude.{Files, Area, under, level_of, in_tops, tops_of, ◌↔◌, Deed, AreItems, FailsWith, OneLevel, TellsLevel, SameButLevel, IsAt}
+use Rattle.level_work.proofs.Prelude.{HasWorked, SameButFirst, part_tree, part_area, Comes, stays, comes, Dealt, AreShares, AreOut, AllReady, AllTell, ShowAll}
+use Rattle.level_work.proofs.Prelude.{AllBack, SameShares, Stored, AreUnder, tops_in, tops_out, get, pointwise, Item, Fate, Order, Lot}
 use Rattle.std.specs.Prelude.{nat_eq}
-use Rattle.std.specs.Cmp.Lexicographic.{pointwise}
-use Rattle.level_work.specs.declared.items.Item.{Item}
-use Rattle.level_work.specs.declared.items.Fate.{Fate}
-use Rattle.level_work.specs.declared.items.Order.{Order}
-use Rattle.level_work.specs.declared.lots.Lot.{Lot}
+use Rattle.level_work.specs.declared.items.Fate.TheVariants as fate
 use Rattle.level_work.proofs.Leveled.{one_level_told}
 use Rattle.level_work.proofs.Likes.{same_place, Like, likes, shares_over, stored_over}
 use Rattle.level_work.proofs.Sharing.{Was, was, shares_told, told_own, opened}

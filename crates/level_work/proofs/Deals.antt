@@ -1,35 +1,15 @@
 -- How the items of a level are dealt.
-use Rattle.std.proofs.Common.{◌≡◌, ◌⊎◌, inl, inr, ⊎_elim, ℕ, zero, suc, ◌+◌, ◌<◌, ◌≤◌, Bool, true, false, List, [], ◌∷◌, ◌++◌, length, map, Some, None}
-use Rattle.std.proofs.Common.{refl, ap, ◌∙◌, sym, subst, arith, eqb, nat_eq, nat_lt, slice_get, cond, take, ◌%◌}
-use Rattle.std.specs.Prelude.{slice_set}
-use Rattle.std.proofs.lemmas.Bool.{false≢true}
-use Rattle.std.proofs.lemmas.Bool.Decides.{nat_tests}
-use Rattle.std.proofs.lemmas.List.{length_push}
-use Rattle.std.proofs.lemmas.List.Sums.{sum_by-append}
-use Rattle.std.proofs.lemmas.Option.{slice_get_within}
-use Rattle.std.specs.List.{count_by}
-use Rattle.path_text.specs.Order.{is_within, TopsAreNested}
-use Rattle.path_text.specs.Path.{level_of, parent_of, refusal}
-use Rattle.path_text.proofs.Levels.{under_deeper}
-use Rattle.path_text.proofs.Within.{same_or_under, some_bytes}
-use Rattle.level_work.specs.Fates.{is_on, place_of}
-use Rattle.level_work.specs.Levels.{AreItems, FailsWith, HasFailedParent}
-use Rattle.level_work.specs.Chain.{AllBelow, level_at}
-use Rattle.level_work.specs.Private.Crews.{InLot, Dealt, AreShares, SameSeats}
-use Rattle.level_work.specs.Private.Dealing.{IsAmong, Knows, AreOnLevel, AreByLevel, AreFailed, has_path, In, DealtTo, DealsOne, left_out, dealt_to}
-use Rattle.level_work.specs.Private.Dealing.{AreInTurn}
-use Rattle.level_work.specs.declared.items.Item.{Item}
-use Rattle.level_work.specs.declared.items.Fate.{Fate}
-use Rattle.level_work.specs.declared.items.Order.{Order}
+use Rattle.level_work.proofs.Prelude.{◌≡◌, ◌⊎◌, inl, inr, ⊎_elim, ℕ, zero, suc, ◌+◌, ◌<◌, ◌≤◌, Bool, true, false, List, [], ◌∷◌, ◌++◌, length, map, Some, None}
+use Rattle.level_work.proofs.Prelude.{refl, ap, ◌∙◌, sym, subst, arith, eqb, nat_eq, nat_lt, slice_get, cond, take, ◌%◌, slice_set, false≢true, nat_tests}
+use Rattle.level_work.proofs.Prelude.{length_push, sum_by-append, slice_get_within, count_by, is_within, TopsAreNested, level_of, parent_of, refusal}
+use Rattle.level_work.proofs.Prelude.{under_deeper, same_or_under, some_bytes, is_on, place_of, AreItems, FailsWith, HasFailedParent, AllBelow, level_at, InLot}
+use Rattle.level_work.proofs.Prelude.{Dealt, AreShares, SameSeats, IsAmong, Knows, AreOnLevel, AreByLevel, AreFailed, has_path, In, DealtTo, DealsOne, left_out}
+use Rattle.level_work.proofs.Prelude.{dealt_to, AreInTurn, Item, Fate, Order, Lot, slice_end, exact_unsigned_eq, longer}
 use Rattle.level_work.specs.declared.items.Order.TheVariants as order
-use Rattle.level_work.specs.declared.lots.Lot.{Lot}
 use Rattle.level_work.proofs.Crewed.{map_get}
 use Rattle.level_work.proofs.Giving.{get_set_same, get_set_other, get_front, length_set, map_set, split_take_suc}
 use Rattle.level_work.proofs.Leases.{Written, written_here, written_there, written, other_number, not_less}
 use Rattle.level_work.proofs.Working.{same_some, get_more}
-use Rattle.entry_pages.proofs.Inverse.{slice_end}
-use Rattle.std.proofs.lemmas.Map.Views.{exact_unsigned_eq}
-use Rattle.path_text.proofs.Preordered.{longer}
 
 pub failed_parent : (items : List Item) (fates : List Fate) (paths : List (List ℕ)) (x : Item) → AreFailed items fates paths
     → has_path paths (parent_of x.path) ≡ true → HasFailedParent items fates x

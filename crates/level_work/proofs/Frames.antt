@@ -1,14 +1,6 @@
 -- What stands at and under a path, where other paths change.
-use Rattle.std.proofs.Common.{◌≡◌, ℕ, true, false, cond, List, None, refl, ap, ◌∙◌, sym, nat_eq}
-use Rattle.std.proofs.lemmas.Bool.{false≢true}
-use Rattle.std.specs.FinMap.{get, get-retain_keys, same_map}
-use Rattle.std.specs.Cmp.Lexicographic.{pointwise, bytes_decides}
-use Rattle.path_text.proofs.Within.{itself}
-use Rattle.path_text.specs.Order.{is_within}
-use Rattle.path_text.specs.Total.{path_cmp_total, path_cmp_same}
-use Rattle.outside.specs.Tree.{Files}
-use Rattle.outside.specs.Writes.{SameBut}
-use Rattle.level_work.specs.Acts.{at_and_under}
+use Rattle.level_work.proofs.Prelude.{◌≡◌, ℕ, true, false, cond, List, None, refl, ap, ◌∙◌, sym, nat_eq, false≢true, get, get-retain_keys, same_map, pointwise}
+use Rattle.level_work.proofs.Prelude.{bytes_decides, itself, is_within, path_cmp_total, path_cmp_same, Files, SameBut, at_and_under}
 
 pub get_at : (p : List ℕ) (files : Files) (q : List ℕ) → get (at_and_under p files) q ≡ cond (is_within q p) (get files q) None
 get_at p files q = get-retain_keys files (λ q. is_within q p) q (λ x e. ap (λ y. is_within y p) (sym (path_cmp_same q x e)))

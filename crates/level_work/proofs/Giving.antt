@@ -1,25 +1,11 @@
 -- Parts that are taken back, one after the other.
-use Rattle.std.proofs.Common.{◌≡◌, ◌⊎◌, inl, inr, ℕ, zero, suc, ◌+◌, ◌-◌, ◌^◌, ◌<◌, ◌≤◌, true, false, cond, ◌||◌, List, [], ◌∷◌, ◌++◌, length, map}
-use Rattle.std.proofs.Common.{take, drop, Option, Some, None, IfSome, refl, ap, ◌∙◌, sym, subst, arith, is_some, slice_get, eqb}
-use Rattle.std.proofs.lemmas.Bool.{false≢true}
-use Rattle.std.proofs.lemmas.Bool.Decides.{nat_tests}
-use Rattle.std.proofs.lemmas.Option.{slice_get_within}
-use Rattle.std.proofs.lemmas.List.Sums.{sum_by-append}
-use Rattle.std.specs.Prelude.{IsTrue}
-use Rattle.std.specs.List.{sum_by, list_any}
-use Rattle.std.specs.Prelude.{slice_set}
-use Rattle.std.specs.FinMap.{get}
-use Rattle.outside.specs.Count.{capped}
-use Rattle.outside.specs.Tree.{Files}
-use Rattle.outside.specs.Writes.{Area, all_but, under}
-use Rattle.outside.specs.Lease.{in_tops, tops_of, is_out, area_with, without_tops, same_tops, Joins}
-use Rattle.level_work.specs.Private.Lots.{part_tree, part_area, part_count}
-use Rattle.level_work.specs.Private.Crews.{tops_in, tops_out, AllBack, Comes, stays, comes, InNone, SameShares, AreUnder, AllTell}
-use Rattle.level_work.specs.Private.Giving.{Giving}
-use Rattle.level_work.specs.declared.lots.Lot.{Lot}
+use Rattle.level_work.proofs.Prelude.{◌≡◌, ◌⊎◌, inl, inr, ℕ, zero, suc, ◌+◌, ◌-◌, ◌^◌, ◌<◌, ◌≤◌, true, false, cond, ◌||◌, List, [], ◌∷◌, ◌++◌, length, map}
+use Rattle.level_work.proofs.Prelude.{take, drop, Option, Some, None, IfSome, refl, ap, ◌∙◌, sym, subst, arith, is_some, slice_get, eqb, false≢true, nat_tests}
+use Rattle.level_work.proofs.Prelude.{slice_get_within, sum_by-append, IsTrue, sum_by, list_any, slice_set, get, capped, Files, Area, all_but, under, in_tops}
+use Rattle.level_work.proofs.Prelude.{tops_of, is_out, area_with, without_tops, same_tops, Joins, part_tree, part_area, part_count, tops_in, tops_out, AllBack}
+use Rattle.level_work.proofs.Prelude.{Comes, stays, comes, InNone, SameShares, AreUnder, AllTell, Giving, Lot, slice_end}
 use Rattle.level_work.proofs.Lent.{same_tops_self}
 use Rattle.level_work.proofs.Working.{same_some, get_more}
-use Rattle.entry_pages.proofs.Inverse.{slice_end}
 
 more : (i : ℕ) → i + 1 ≡ suc i
 more i = omega arith

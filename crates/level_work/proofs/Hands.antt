@@ -1,10 +1,6 @@
 -- Actors that become lots.
-use Rattle.std.proofs.Common.{◌≡◌, ◌⊎◌, inl, inr, ℕ, List, [], ◌∷◌, ◌++◌, map, length, take, drop, append-nil, append_assoc, arith, Some, None, ap}
-use Rattle.std.proofs.Common.{◌∙◌, sym, subst, slice_get}
-use Rattle.std.specs.Prelude.{Result, Ok, Err, IfOk}
-use Rattle.std.proofs.lemmas.List.{map_push, nil_from_length, length-drop, take_all}
-use Rattle.level_work.specs.Private.Crews.{AtHome}
-use Rattle.level_work.specs.declared.lots.Lot.{Lot}
+use Rattle.level_work.proofs.Prelude.{◌≡◌, ◌⊎◌, inl, inr, ℕ, List, [], ◌∷◌, ◌++◌, map, length, take, drop, append-nil, append_assoc, arith, Some, None, ap, ◌∙◌}
+use Rattle.level_work.proofs.Prelude.{sym, subst, slice_get, Result, Ok, Err, IfOk, map_push, nil_from_length, length-drop, take_all, AtHome, Lot}
 use Rattle.level_work.proofs.Working.{get_more}
 
 -- a list of which the first are taken, with one more

@@ -1,10 +1,6 @@
 -- Lots without parts.
-use Rattle.std.proofs.Common.{◌≡◌, ℕ, suc, ◌++◌, List, [], ◌∷◌, map, Option, Some, None, IfSome, refl, ap, ◌∙◌}
-use Rattle.outside.specs.Tree.{Files}
-use Rattle.outside.specs.Writes.{Area}
-use Rattle.level_work.specs.Private.Lots.{part_tree, part_area, part_count}
-use Rattle.level_work.specs.Private.Crews.{AtHome, tops_in, tops_out, AreOut}
-use Rattle.level_work.specs.declared.lots.Lot.{Lot}
+use Rattle.level_work.proofs.Prelude.{◌≡◌, ℕ, suc, ◌++◌, List, [], ◌∷◌, map, Option, Some, None, IfSome, refl, ap, ◌∙◌, Files, Area, part_tree, part_area}
+use Rattle.level_work.proofs.Prelude.{part_count, AtHome, tops_in, tops_out, AreOut, Lot}
 
 module _ {A P : Type 0} (tree : P → Option Files) (area : P → Area) (count : P → ℕ) where
   pub none_out : (lots : List (Lot A P)) → AtHome lots → tops_out (part_area area) lots ≡ []

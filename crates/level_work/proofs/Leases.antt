@@ -1,38 +1,16 @@
 -- Shares that are leased, one after the other.
-use Rattle.std.proofs.Common.{◌≡◌, ℕ, zero, suc, ◌+◌, ◌<◌, ◌≤◌, Bool, true, false, cond, not, ◌||◌, ◌&&◌, List, [], ◌∷◌, ◌++◌, length, Option, Some}
-use Rattle.std.proofs.Common.{None, IfSome, refl, ap, ◌∙◌, sym, subst, arith, eqb, nat_lt, append_assoc, is_some, slice_get}
-use Rattle.std.specs.Prelude.{IsTrue, slice_set}
-use Rattle.std.proofs.lemmas.Bool.{false≢true}
-use Rattle.std.proofs.lemmas.Bool.Decides.{nat_tests}
-use Rattle.std.proofs.lemmas.Option.{slice_get_within}
-use Rattle.std.specs.List.{list_all}
-use Rattle.std.specs.Option.{option_map}
-use Rattle.std.specs.FinMap.{get}
-use Rattle.path_text.specs.Order.{is_within}
-use Rattle.path_text.specs.Path.{level_of, parent_of}
-use Rattle.outside.specs.Tree.{Files, is_dir, is_root}
-use Rattle.outside.specs.Writes.{Area, all_but, nothing_lent, under, is_open, is_apart}
-use Rattle.outside.specs.Lease.{in_tops, leased, kept, area_without, tops_of, CanLease, HaveParents}
-use Rattle.path_text.proofs.Levels.{as_deep, parent_above}
-use Rattle.path_text.proofs.Within.{itself, some_bytes}
-use Rattle.outside.proofs.Leased.{a_top, get_part, get_rest}
-use Rattle.level_work.specs.Levels.{AreItems}
-use Rattle.level_work.specs.Private.Steps.{CanStep}
-use Rattle.level_work.specs.Private.Lots.{IsAt, part_tree, part_area, part_count}
-use Rattle.level_work.specs.Private.Shares.{ArePaths, IsShare}
-use Rattle.level_work.specs.Private.Crews.{tops_in, tops_out, AtHome, InLot, AreShares, AreOut, AllReady, AllTell, AreUnder, InNone, SameShares}
-use Rattle.level_work.specs.Private.Leasing.{Leasing}
-use Rattle.level_work.specs.declared.items.Item.{Item}
-use Rattle.level_work.specs.declared.items.Fate.{Fate}
-use Rattle.level_work.specs.declared.items.Order.{Order}
-use Rattle.level_work.specs.declared.lots.Lot.{Lot}
+use Rattle.level_work.proofs.Prelude.{◌≡◌, ℕ, zero, suc, ◌+◌, ◌<◌, ◌≤◌, Bool, true, false, cond, not, ◌||◌, ◌&&◌, List, [], ◌∷◌, ◌++◌, length, Option, Some}
+use Rattle.level_work.proofs.Prelude.{None, IfSome, refl, ap, ◌∙◌, sym, subst, arith, eqb, nat_lt, append_assoc, is_some, slice_get, IsTrue, slice_set}
+use Rattle.level_work.proofs.Prelude.{false≢true, nat_tests, slice_get_within, list_all, option_map, get, is_within, level_of, parent_of, Files, is_dir}
+use Rattle.level_work.proofs.Prelude.{is_root, Area, all_but, nothing_lent, under, is_open, is_apart, in_tops, leased, kept, area_without, tops_of, CanLease}
+use Rattle.level_work.proofs.Prelude.{HaveParents, as_deep, parent_above, itself, some_bytes, a_top, get_part, get_rest, AreItems, CanStep, IsAt, part_tree}
+use Rattle.level_work.proofs.Prelude.{part_area, part_count, ArePaths, IsShare, tops_in, tops_out, AtHome, InLot, AreShares, AreOut, AllReady, AllTell}
+use Rattle.level_work.proofs.Prelude.{AreUnder, InNone, SameShares, Leasing, Item, Fate, Order, Lot, exact_unsigned_eq, longer}
 use Rattle.level_work.proofs.Giving.{get_set_same, get_set_other, length_set, map_set}
 use Rattle.level_work.proofs.Homes.{none_out, none_counted, all_left}
 use Rattle.level_work.proofs.Lent.{item_of, can_lease, is_ready}
 use Rattle.level_work.proofs.Likes.{likes, likes_back, shares_over, same_place}
 use Rattle.level_work.proofs.Working.{same_some, item_at}
-use Rattle.std.proofs.lemmas.Map.Views.{exact_unsigned_eq}
-use Rattle.path_text.proofs.Preordered.{longer}
 
 all_of : {X : Type 0} (f : X → Bool) (xs : List X) → ((i : ℕ) (x : X) → slice_get xs i ≡ Some x → f x ≡ true) → list_all f xs ≡ true
 all_of f [] h = refl

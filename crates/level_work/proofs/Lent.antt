@@ -1,26 +1,10 @@
 -- A share that is leased, worked on and given back.
-use Rattle.std.proofs.Common.{◌≡◌, ◌≢◌, ℕ, zero, suc, ◌+◌, ◌<◌, Bool, true, false, not, ◌&&◌, List, [], ◌∷◌, ◌++◌, length, Option, Some}
-use Rattle.std.proofs.Common.{refl, ap, ◌∙◌, sym, subst, arith, nat_eq, eqb, length-append, slice_get}
-use Rattle.std.specs.Prelude.{IsTrue}
-use Rattle.std.proofs.lemmas.Bool.{false≢true}
-use Rattle.std.proofs.lemmas.Bool.Decides.{nat_tests}
-use Rattle.std.proofs.lemmas.Option.{slice_get_within, get_or_from_slice_get}
-use Rattle.std.proofs.lemmas.List.Folds.{list_any_at}
-use Rattle.std.specs.List.{list_any}
-use Rattle.std.specs.Cmp.Lexicographic.{pointwise, bytes_decides}
-use Rattle.path_text.specs.Order.{is_within}
-use Rattle.path_text.specs.Path.{level_of}
-use Rattle.outside.specs.Tree.{is_root}
-use Rattle.outside.specs.Writes.{Area, nothing_lent, under, is_top, is_open}
-use Rattle.outside.specs.Lease.{in_tops, same_tops, CanLease}
-use Rattle.level_work.specs.Private.Lots.{IsAt, AreApart, Ready}
-use Rattle.level_work.specs.Private.Shares.{ArePaths, AreFirstPaths, IsShare}
-use Rattle.level_work.specs.declared.items.Item.{Item}
-use Rattle.level_work.specs.declared.lots.Lot.{Lot}
-use Rattle.path_text.proofs.Within.{itself}
+use Rattle.level_work.proofs.Prelude.{◌≡◌, ◌≢◌, ℕ, zero, suc, ◌+◌, ◌<◌, Bool, true, false, not, ◌&&◌, List, [], ◌∷◌, ◌++◌, length, Option, Some, refl, ap, ◌∙◌}
+use Rattle.level_work.proofs.Prelude.{sym, subst, arith, nat_eq, eqb, length-append, slice_get, IsTrue, false≢true, nat_tests, slice_get_within}
+use Rattle.level_work.proofs.Prelude.{get_or_from_slice_get, list_any_at, list_any, pointwise, bytes_decides, is_within, level_of, is_root, Area, nothing_lent}
+use Rattle.level_work.proofs.Prelude.{under, is_top, is_open, in_tops, same_tops, CanLease, IsAt, AreApart, Ready, ArePaths, AreFirstPaths, IsShare, Item, Lot}
+use Rattle.level_work.proofs.Prelude.{itself, slice_end, at_itself}
 use Rattle.level_work.proofs.Working.{item_at, same_some}
-use Rattle.entry_pages.proofs.Inverse.{slice_end}
-use Rattle.outside.proofs.Saved.{at_itself}
 
 get_front : {X : Type 0} (xs : List X) (y : X) (j : ℕ) → j < length xs → slice_get (xs ++ y ∷ []) j ≡ slice_get xs j
 get_front [] y j l = absurd (omega arith)

@@ -1,31 +1,10 @@
 -- One level by several actors, from what each share did.
-use Rattle.std.proofs.Common.{◌≡◌, ◌≢◌, ◌⊎◌, inl, inr, ℕ, true, false, List, [], Option, Some, refl, ap, ◌∙◌, sym, subst, arith, nat_eq, eqb, slice_get}
-use Rattle.std.proofs.lemmas.Bool.{false≢true}
-use Rattle.std.proofs.lemmas.Bool.Decides.{nat_tests}
-use Rattle.std.proofs.lemmas.Option.{slice_get_within, get_or_from_slice_get}
-use Rattle.std.proofs.lemmas.List.Folds.{list_any_at}
-use Rattle.std.specs.FinMap.{get}
-use Rattle.std.specs.Cmp.Lexicographic.{pointwise, bytes_decides}
-use Rattle.path_text.specs.Order.{is_within}
-use Rattle.path_text.specs.Path.{level_of}
-use Rattle.outside.specs.Tree.{Files}
-use Rattle.outside.specs.Writes.{Area}
-use Rattle.outside.specs.Lease.{in_tops, tops_of}
-use Rattle.level_work.specs.Acts.{Deed, at_and_under}
-use Rattle.level_work.specs.Levels.{AreItems, FailsWith}
-use Rattle.level_work.specs.Chain.{OneLevel}
-use Rattle.level_work.specs.Private.Lots.{IsAt}
-use Rattle.level_work.specs.Private.Shares.{ArePaths}
-use Rattle.level_work.specs.Private.Crews.{Dealt, AreShares, InNone, Comes, stays, comes, AllBack}
-use Rattle.level_work.specs.declared.items.Item.{Item}
-use Rattle.level_work.specs.declared.items.Fate.{Fate}
+use Rattle.level_work.proofs.Prelude.{◌≡◌, ◌≢◌, ◌⊎◌, inl, inr, ℕ, true, false, List, [], Option, Some, refl, ap, ◌∙◌, sym, subst, arith, nat_eq, eqb, slice_get}
+use Rattle.level_work.proofs.Prelude.{false≢true, nat_tests, slice_get_within, get_or_from_slice_get, list_any_at, get, pointwise, bytes_decides, is_within}
+use Rattle.level_work.proofs.Prelude.{level_of, Files, Area, in_tops, tops_of, Deed, at_and_under, AreItems, FailsWith, OneLevel, IsAt, ArePaths, Dealt}
+use Rattle.level_work.proofs.Prelude.{AreShares, InNone, Comes, stays, comes, AllBack, Item, Fate, Order, Lot, deeper, some_bytes, a_top}
 use Rattle.level_work.specs.declared.items.Fate.TheVariants as fate
-use Rattle.level_work.specs.declared.items.Order.{Order}
-use Rattle.level_work.specs.declared.lots.Lot.{Lot}
-use Rattle.path_text.proofs.Levels.{deeper}
-use Rattle.path_text.proofs.Within.{some_bytes}
 use Rattle.level_work.proofs.Frames.{same_at}
-use Rattle.outside.proofs.Leased.{a_top}
 use Rattle.level_work.proofs.Working.{same_some, item_at}
 
 module _ {A P : Type 0} (tree : Option P → Option Files) (area : Option P → Area) where

@@ -1,11 +1,6 @@
 -- Lots that have the same shares.
-use Rattle.std.proofs.Common.{◌≡◌, ◌⊎◌, inl, inr, ℕ, zero, suc, List, [], ◌∷◌, map, Some, refl, ap, ◌∙◌, sym, subst, slice_get}
-use Rattle.level_work.specs.Private.Lots.{IsAt}
-use Rattle.level_work.specs.Private.Crews.{InLot, Dealt, AreShares, SameShares, Stored}
-use Rattle.level_work.specs.declared.items.Item.{Item}
-use Rattle.level_work.specs.declared.items.Fate.{Fate}
-use Rattle.level_work.specs.declared.items.Order.{Order}
-use Rattle.level_work.specs.declared.lots.Lot.{Lot}
+use Rattle.level_work.proofs.Prelude.{◌≡◌, ◌⊎◌, inl, inr, ℕ, zero, suc, List, [], ◌∷◌, map, Some, refl, ap, ◌∙◌, sym, subst, slice_get, IsAt, InLot, Dealt}
+use Rattle.level_work.proofs.Prelude.{AreShares, SameShares, Stored, Item, Fate, Order, Lot}
 use Rattle.level_work.proofs.Working.{same_some}
 
 first : {Y : Type 0} → Y → List Y → Y

@@ -1,29 +1,16 @@
 -- The maps between the levels follow from the maps before and after.
-use Rattle.std.proofs.Common.{◌≡◌, ◌≢◌, ◌⊎◌, inl, inr, ℕ, zero, suc, Bool, true, false, cond, not, ◌||◌, ◌&&◌, List, [], ◌∷◌, Option, Some, None}
-use Rattle.std.proofs.Common.{refl, ap, ◌∙◌, sym, subst, arith, nat_eq, is_some, slice_get}
-use Rattle.std.proofs.lemmas.Bool.{false≢true, and_from, and_parts}
-use Rattle.std.specs.FinMap.{get, entries, retain_keys, get-entries, get-retain_keys, same_map}
-use Rattle.std.specs.Cmp.Lexicographic.{pointwise, bytes_decides}
-use Rattle.path_text.specs.Path.{level_of}
-use Rattle.path_text.specs.Total.{path_cmp_total, path_cmp_same}
-use Rattle.outside.specs.Tree.{Files, Node}
-use Rattle.outside.specs.Laid.{get_put_all}
-use Rattle.level_work.specs.Acts.{Deed, at_and_under}
-use Rattle.level_work.specs.Levels.{with_at, Acted, AreItems, is_item}
-use Rattle.level_work.specs.Chain.{OneLevel, is_level_done, mark_at, is_done_path, stage, ActedIsChain}
-use Rattle.level_work.specs.declared.items.Item.{Item}
-use Rattle.level_work.specs.declared.items.Fate.{Fate}
+use Rattle.level_work.proofs.Prelude.{◌≡◌, ◌≢◌, ◌⊎◌, inl, inr, ℕ, zero, suc, Bool, true, false, cond, not, ◌||◌, ◌&&◌, List, [], ◌∷◌, Option, Some, None, refl}
+use Rattle.level_work.proofs.Prelude.{ap, ◌∙◌, sym, subst, arith, nat_eq, is_some, slice_get, false≢true, and_from, and_parts, get, entries, retain_keys}
+use Rattle.level_work.proofs.Prelude.{get-entries, get-retain_keys, same_map, pointwise, bytes_decides, level_of, path_cmp_total, path_cmp_same, Files, Node}
+use Rattle.level_work.proofs.Prelude.{get_put_all, Deed, at_and_under, with_at, Acted, AreItems, is_item, OneLevel, is_level_done, mark_at, is_done_path}
+use Rattle.level_work.proofs.Prelude.{ActedIsChain, Item, Fate, Order, deeper, as_deep, some_bytes, longer, or_true}
+use Rattle.level_work.specs.Chain.{stage}
 use Rattle.level_work.specs.declared.items.Fate.TheVariants as fate
-use Rattle.level_work.specs.declared.items.Order.{Order}
 use Rattle.level_work.specs.declared.items.Order.TheVariants as order
 use Rattle.level_work.proofs.Frames.{same_at}
-use Rattle.path_text.proofs.Levels.{deeper, as_deep}
-use Rattle.path_text.proofs.Within.{some_bytes}
 use Rattle.level_work.proofs.Stages.{Next, with_here, other_level, le_true, true_le, done_after, not_here, still_done, now_done}
 use Rattle.level_work.proofs.Running.{next_at, not_yet, at_last, is_no_item, no_item, standing}
 use Rattle.level_work.proofs.Working.{same_some}
-use Rattle.path_text.proofs.Preordered.{longer}
-use Rattle.outside.proofs.Leased.{or_true}
 
 get_stage : (o : Order) (t : ℕ) (items : List Item) (before after : Files) (q : List ℕ)
     → get (stage o t items before after) q ≡ cond (is_done_path o t items q) (get after q) (get before q)

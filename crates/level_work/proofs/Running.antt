@@ -1,30 +1,16 @@
 -- Level by level, turn after turn.
-use Rattle.std.proofs.Common.{◌≡◌, ◌≢◌, ◌⊎◌, ◌↔◌, inl, inr, ℕ, zero, suc, ◌+◌, ◌-◌, ◌<◌, ◌≤◌, true, false, cond, ◌||◌, List, [], ◌∷◌, length}
-use Rattle.std.proofs.Common.{Option, Some, None, IfSome, refl, ap, ◌∙◌, sym, subst, arith, nat_eq, nat_le, is_some, slice_get}
-use Rattle.std.proofs.lemmas.Bool.{false≢true, or_parts}
-use Rattle.std.proofs.lemmas.Bool.Decides.{nat_tests}
-use Rattle.std.specs.Prelude.{Result, Ok, Err, OnErr}
-use Rattle.std.specs.FinMap.{get}
-use Rattle.std.proofs.lemmas.Option.{slice_get_within}
-use Rattle.std.specs.Cmp.Lexicographic.{pointwise, bytes_decides}
-use Rattle.path_text.specs.Path.{level_of, parent_of, refusal}
-use Rattle.outside.specs.Tree.{Files, is_dir, is_root}
-use Rattle.level_work.specs.Acts.{Deed, at_and_under, MakesDirs}
-use Rattle.level_work.specs.Levels.{found, left, Acted, SameButItems, is_item, FailsWith, ParentsFail, StandIn, AreItems}
-use Rattle.level_work.specs.Chain.{OneLevel, is_level_done, AllBelow, mark_at, level_at}
-use Rattle.level_work.specs.Private.Steps.{Sofar, SameButLevel, CanStep, TellsLevel, Ran}
-use Rattle.level_work.specs.declared.items.Item.{Item}
-use Rattle.level_work.specs.declared.items.Fate.{Fate}
+use Rattle.level_work.proofs.Prelude.{◌≡◌, ◌≢◌, ◌⊎◌, inl, inr, ℕ, zero, suc, ◌+◌, ◌-◌, ◌<◌, ◌≤◌, true, false, cond, ◌||◌, List, [], ◌∷◌, length, Option, Some}
+use Rattle.level_work.proofs.Prelude.{None, IfSome, refl, ap, ◌∙◌, sym, subst, arith, nat_eq, nat_le, is_some, slice_get, false≢true, or_parts, nat_tests}
+use Rattle.level_work.proofs.Prelude.{Result, Ok, Err, OnErr, get, slice_get_within, pointwise, bytes_decides, level_of, parent_of, refusal, Files, is_dir}
+use Rattle.level_work.proofs.Prelude.{is_root, Deed, at_and_under, MakesDirs, found, left, Acted, SameButItems, is_item, FailsWith, ParentsFail, StandIn}
+use Rattle.level_work.proofs.Prelude.{AreItems, OneLevel, is_level_done, AllBelow, mark_at, level_at, Sofar, SameButLevel, CanStep, TellsLevel, Ran, Item, Fate}
+use Rattle.level_work.proofs.Prelude.{Order, parent_above, some_bytes, less, longer}
+use Rattle.std.proofs.Common.{◌↔◌}
 use Rattle.level_work.specs.declared.items.Fate.TheVariants as fate
-use Rattle.level_work.specs.declared.items.Order.{Order}
 use Rattle.level_work.specs.declared.items.Order.TheVariants as order
 use Rattle.level_work.proofs.Frames.{get_here}
-use Rattle.path_text.proofs.Levels.{parent_above}
-use Rattle.path_text.proofs.Within.{some_bytes}
 use Rattle.level_work.proofs.Stages.{Next, get_with, other_level, le_true, true_le, done_after, not_here, level_more}
 use Rattle.level_work.proofs.Working.{some_at, same_some, both_told, same_told}
-use Rattle.path_text.proofs.Under.{less}
-use Rattle.path_text.proofs.Preordered.{longer}
 
 pub is_no_item : (items : List Item) (q : List ℕ) (k : ℕ) (x : Item) → is_item items q ≡ false → slice_get items k ≡ Some x → pointwise nat_eq q x.path ≡ false
 is_no_item [] q k x off at = cc

@@ -1,11 +1,6 @@
 -- A set of paths, asked for one of them.
-use Rattle.std.proofs.Common.{◌≡◌, ℕ, Bool, true, false, cond, ◌||◌, List, [], ◌∷◌, refl, ap, ◌∙◌, sym, nat_eq}
-use Rattle.std.specs.List.{list_any}
-use Rattle.std.specs.Ordering.{is_eq}
-use Rattle.std.specs.Cmp.Lexicographic.{pointwise, bytes_decides}
-use Rattle.path_text.specs.Order.{path_cmp}
-use Rattle.path_text.specs.Total.{path_cmp_ties}
-use Rattle.level_work.specs.Private.Dealing.{has_path}
+use Rattle.level_work.proofs.Prelude.{◌≡◌, ℕ, Bool, true, false, cond, ◌||◌, List, [], ◌∷◌, refl, ap, ◌∙◌, sym, nat_eq, list_any, is_eq, pointwise}
+use Rattle.level_work.proofs.Prelude.{bytes_decides, path_cmp, path_cmp_ties, has_path}
 
 -- two lists of bytes are compared as well the other way round
 pub turn : (q p : List ℕ) → pointwise nat_eq q p ≡ pointwise nat_eq p q

@@ -1,20 +1,7 @@
 -- What the shares of a level did, over the map before the level.
-use Rattle.std.proofs.Common.{◌≡◌, ℕ, ◌<◌, true, false, List, length, Option, Some, None, IfSome, refl, ap, ◌∙◌, sym, subst, arith, slice_get, is_some}
-use Rattle.std.proofs.lemmas.Bool.{false≢true}
-use Rattle.std.proofs.lemmas.Option.{slice_get_within, get_or_from_slice_get}
-use Rattle.std.specs.Prelude.{slice_index_or}
-use Rattle.outside.specs.Tree.{Files}
-use Rattle.outside.specs.Writes.{Area}
-use Rattle.outside.specs.Lease.{in_tops, tops_of}
-use Rattle.level_work.specs.Acts.{Deed, at_and_under}
-use Rattle.level_work.specs.Levels.{AreItems}
-use Rattle.level_work.specs.Private.Lots.{IsAt, HasWorked, WorkedOn, SameButFirst}
-use Rattle.level_work.specs.Private.Shares.{ArePaths}
-use Rattle.level_work.specs.Private.Crews.{AreShares, AreOut, AllReady}
-use Rattle.level_work.specs.declared.items.Item.{Item}
-use Rattle.level_work.specs.declared.items.Fate.{Fate}
-use Rattle.level_work.specs.declared.items.Order.{Order}
-use Rattle.level_work.specs.declared.lots.Lot.{Lot}
+use Rattle.level_work.proofs.Prelude.{◌≡◌, ℕ, ◌<◌, true, false, List, length, Option, Some, None, IfSome, refl, ap, ◌∙◌, sym, subst, arith, slice_get, is_some}
+use Rattle.level_work.proofs.Prelude.{false≢true, slice_get_within, get_or_from_slice_get, slice_index_or, Files, Area, in_tops, tops_of, Deed, at_and_under}
+use Rattle.level_work.proofs.Prelude.{AreItems, IsAt, HasWorked, WorkedOn, SameButFirst, ArePaths, AreShares, AreOut, AllReady, Item, Fate, Order, Lot}
 use Rattle.level_work.proofs.Frames.{same_at}
 use Rattle.level_work.proofs.Leveled.{SharesTold, inside}
 use Rattle.level_work.proofs.Working.{some_at}

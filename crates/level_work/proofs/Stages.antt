@@ -1,27 +1,10 @@
 -- Level by level.
-use Rattle.std.proofs.Common.{◌≡◌, ◌⊎◌, inl, inr, ℕ, ◌+◌, ◌<◌, ◌≤◌, true, false, cond, List, length, Option, Some, None, refl, ap, ◌∙◌, sym, subst}
-use Rattle.std.proofs.Common.{arith, nat_eq, nat_lt, nat_le, slice_get}
-use Rattle.std.proofs.lemmas.Bool.Decides.{nat_tests}
-use Rattle.std.specs.FinMap.{get, get-insert, get-remove, same_map}
-use Rattle.std.specs.Cmp.Lexicographic.{pointwise, bytes_decides}
-use Rattle.path_text.specs.Order.{is_within}
-use Rattle.path_text.specs.Path.{level_of}
-use Rattle.path_text.specs.Total.{path_cmp_total, path_cmp_same}
-use Rattle.outside.specs.Tree.{Files, Node}
-use Rattle.level_work.specs.Acts.{Deed, at_and_under}
-use Rattle.level_work.specs.Levels.{with_at, HasFate}
-use Rattle.level_work.specs.Chain.{OneLevel, is_level_done}
-use Rattle.level_work.specs.Private.Steps.{Sofar}
-use Rattle.level_work.specs.declared.items.Item.{Item}
-use Rattle.level_work.specs.declared.items.Fate.{Fate}
-use Rattle.level_work.specs.declared.items.Order.{Order}
+use Rattle.level_work.proofs.Prelude.{◌≡◌, ◌⊎◌, inl, inr, ℕ, ◌+◌, ◌<◌, ◌≤◌, true, false, cond, List, length, Option, Some, None, refl, ap, ◌∙◌, sym, subst}
+use Rattle.level_work.proofs.Prelude.{arith, nat_eq, nat_lt, nat_le, slice_get, nat_tests, get, get-insert, get-remove, same_map, pointwise, bytes_decides}
+use Rattle.level_work.proofs.Prelude.{is_within, level_of, path_cmp_total, path_cmp_same, Files, Node, Deed, at_and_under, with_at, HasFate, OneLevel}
+use Rattle.level_work.proofs.Prelude.{is_level_done, Sofar, Item, Fate, Order, deeper, as_deep, itself, less, longer, tie}
 use Rattle.level_work.specs.declared.items.Order.TheVariants as order
 use Rattle.level_work.proofs.Frames.{get_at, same_at}
-use Rattle.path_text.proofs.Levels.{deeper, as_deep}
-use Rattle.path_text.proofs.Within.{itself}
-use Rattle.path_text.proofs.Under.{less}
-use Rattle.path_text.proofs.Preordered.{longer}
-use Rattle.outside.proofs.Saved.{tie}
 
 pub get_with : (p : List ℕ) (o : Option Node) (files : Files) (q : List ℕ) → get (with_at p o files) q ≡ cond (pointwise nat_eq q p) o (get files q)
 get_with p None files q = get-remove path_cmp_total files p q ∙ ap (λ b. cond b None (get files q)) (tie q p)

@@ -1,30 +1,14 @@
 -- Fates stored, and failed paths noted.
-use Rattle.std.proofs.Common.{◌≡◌, ◌≢◌, ◌⊎◌, inl, inr, ℕ, zero, suc, ◌+◌, ◌<◌, ◌≤◌, Bool, true, false, cond, ◌||◌, List, [], ◌∷◌, length, take, Some}
-use Rattle.std.proofs.Common.{refl, ap, ◌∙◌, sym, arith, eqb, nat_eq, nat_lt, slice_get}
-use Rattle.std.specs.Prelude.{slice_set}
-use Rattle.std.proofs.lemmas.Bool.{false≢true, or_right}
-use Rattle.std.proofs.lemmas.Option.{slice_get_within}
-use Rattle.std.proofs.lemmas.List.Sums.{sum_by-cons, sum_by-append}
-use Rattle.std.specs.List.{count_by, sum_by}
-use Rattle.std.specs.Cmp.Lexicographic.{pointwise, bytes_decides}
-use Rattle.path_text.specs.Path.{level_of}
-use Rattle.path_text.proofs.Within.{itself}
-use Rattle.level_work.specs.Counts.{is_failed}
-use Rattle.level_work.specs.Private.Steps.{TellsLevel}
-use Rattle.level_work.specs.Private.Crews.{AreShares, Stored}
-use Rattle.level_work.specs.Private.Dealing.{AreOnLevel, FailedAt, IsFresh, Knows, has_path, In}
-use Rattle.level_work.specs.Private.Storing.{IsLeftOut, IsStored, AreStored, IsNoted, Notes}
-use Rattle.level_work.specs.declared.items.Item.{Item}
-use Rattle.level_work.specs.declared.items.Fate.{Fate}
+use Rattle.level_work.proofs.Prelude.{◌≡◌, ◌≢◌, ◌⊎◌, inl, inr, ℕ, zero, suc, ◌+◌, ◌<◌, ◌≤◌, Bool, true, false, cond, ◌||◌, List, [], ◌∷◌, length, take, Some}
+use Rattle.level_work.proofs.Prelude.{refl, ap, ◌∙◌, sym, arith, eqb, nat_eq, nat_lt, slice_get, slice_set, false≢true, or_right, slice_get_within, sum_by-cons}
+use Rattle.level_work.proofs.Prelude.{sum_by-append, count_by, sum_by, pointwise, bytes_decides, level_of, itself, is_failed, TellsLevel, AreShares, Stored}
+use Rattle.level_work.proofs.Prelude.{AreOnLevel, FailedAt, IsFresh, Knows, has_path, In, IsLeftOut, IsStored, AreStored, IsNoted, Notes, Item, Fate, Order}
+use Rattle.level_work.proofs.Prelude.{Lot, exact_unsigned_eq, longer}
 use Rattle.level_work.specs.declared.items.Fate.TheVariants as fate
-use Rattle.level_work.specs.declared.items.Order.{Order}
 use Rattle.level_work.specs.declared.items.Order.TheVariants as order
-use Rattle.level_work.specs.declared.lots.Lot.{Lot}
 use Rattle.level_work.proofs.Giving.{get_set_same, get_set_other, length_set, split_take, take_all}
 use Rattle.level_work.proofs.Leases.{other_number, not_less}
 use Rattle.level_work.proofs.Working.{same_some, count_more}
-use Rattle.std.proofs.lemmas.Map.Views.{exact_unsigned_eq}
-use Rattle.path_text.proofs.Preordered.{longer}
 use Rattle.level_work.proofs.Deals.{widen}
 
 count_set : (xs : List Fate) (k : ℕ) (f : Fate) → count_by is_failed (slice_set xs k f) ≤ count_by is_failed xs + cond (is_failed f) 1 0

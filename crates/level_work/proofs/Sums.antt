@@ -1,11 +1,6 @@
 -- The counts of all lots together.
-use Rattle.std.proofs.Common.{◌≡◌, ℕ, suc, ◌+◌, ◌-◌, ◌^◌, ◌<◌, ◌≤◌, List, [], ◌∷◌, map, length, Option, Some, refl, ap, arith, slice_get}
-use Rattle.std.proofs.lemmas.List.Sums.{sum_by-cons}
-use Rattle.std.specs.Prelude.{slice_index_or}
-use Rattle.std.specs.List.{count_by, sum_by}
-use Rattle.level_work.specs.Counts.{is_failed, NoneAtEnd}
-use Rattle.level_work.specs.Private.Lots.{Blamed}
-use Rattle.level_work.specs.declared.lots.Lot.{Lot}
+use Rattle.level_work.proofs.Prelude.{◌≡◌, ℕ, suc, ◌+◌, ◌-◌, ◌^◌, ◌<◌, ◌≤◌, List, [], ◌∷◌, map, length, Option, Some, refl, ap, arith, slice_get, sum_by-cons}
+use Rattle.level_work.proofs.Prelude.{slice_index_or, count_by, sum_by, is_failed, NoneAtEnd, Blamed, Lot}
 
 first : {Y : Type 0} → Y → List Y → Y
 first d [] = d

@@ -1,29 +1,11 @@
 -- All lots at work, level after level.
-use Rattle.std.proofs.Common.{◌≡◌, ℕ, suc, ◌+◌, ◌<◌, ◌≤◌, true, false, cond, List, [], ◌∷◌, length, map, Option, Some, None, IfSome, refl, ap}
-use Rattle.std.proofs.Common.{◌∙◌, sym, subst, arith, is_some, slice_get}
-use Rattle.std.proofs.lemmas.Bool.{false≢true, false_from_ne_true}
-use Rattle.std.proofs.lemmas.Option.{slice_get_within}
-use Rattle.std.proofs.lemmas.List.{length-map}
-use Rattle.std.proofs.lemmas.List.Sums.{sum_by-cons}
-use Rattle.std.specs.List.{count_by}
-use Rattle.path_text.specs.Path.{level_of}
-use Rattle.outside.specs.Tree.{Files}
-use Rattle.outside.specs.Writes.{Area, nothing_lent}
-use Rattle.level_work.specs.Acts.{Deed, Alike, AllShow, MakesDirs}
-use Rattle.level_work.specs.Counts.{NoneFell, BlamedAll, is_failed}
-use Rattle.level_work.specs.Levels.{AreItems, StandIn, ParentsFail, Acted, SameButItems}
-use Rattle.level_work.specs.Chain.{AllBelow, OneLevel, is_level_done, mark_at, level_at}
-use Rattle.level_work.specs.Private.Steps.{CanStep, TellsLevel, SameButLevel, Ran}
-use Rattle.level_work.specs.Private.Crews.{AtHome, BlamedMore, SameActors, ShowAll}
-use Rattle.level_work.specs.Private.Dealing.{AreOnLevel, Knows, has_path}
-use Rattle.level_work.specs.Private.Storing.{Notes}
-use Rattle.level_work.specs.Private.Turns.{Turned}
-use Rattle.level_work.specs.declared.items.Item.{Item}
-use Rattle.level_work.specs.declared.items.Fate.{Fate}
+use Rattle.level_work.proofs.Prelude.{◌≡◌, ℕ, suc, ◌+◌, ◌<◌, ◌≤◌, true, false, cond, List, [], ◌∷◌, length, map, Option, Some, None, IfSome, refl, ap, ◌∙◌, sym}
+use Rattle.level_work.proofs.Prelude.{subst, arith, is_some, slice_get, false≢true, false_from_ne_true, slice_get_within, length-map, sum_by-cons, count_by}
+use Rattle.level_work.proofs.Prelude.{level_of, Files, Area, nothing_lent, Deed, Alike, AllShow, MakesDirs, NoneFell, BlamedAll, is_failed, AreItems, StandIn}
+use Rattle.level_work.proofs.Prelude.{ParentsFail, Acted, SameButItems, AllBelow, OneLevel, is_level_done, mark_at, level_at, CanStep, TellsLevel, SameButLevel}
+use Rattle.level_work.proofs.Prelude.{Ran, AtHome, BlamedMore, SameActors, ShowAll, AreOnLevel, Knows, has_path, Notes, Turned, Item, Fate, Order, Lot}
 use Rattle.level_work.specs.declared.items.Fate.TheVariants as fate
-use Rattle.level_work.specs.declared.items.Order.{Order}
 use Rattle.level_work.specs.declared.items.Order.TheVariants as order
-use Rattle.level_work.specs.declared.lots.Lot.{Lot}
 use Rattle.level_work.proofs.Crewed.{map_get}
 use Rattle.level_work.proofs.Running.{next_at, ran_none, can_step, ran_more, ran_told, ran_acted, ran_lost}
 use Rattle.level_work.proofs.Stages.{not_here, still_done, now_done}

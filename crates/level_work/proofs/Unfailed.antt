@@ -1,9 +1,5 @@
 -- No item failed where none is counted.
-use Rattle.std.proofs.Common.{◌≡◌, ℕ, true, false, cond, List, [], ◌∷◌, refl, ap, arith}
-use Rattle.std.specs.List.{AllByRecursion, count_by}
-use Rattle.std.proofs.lemmas.List.Sums.{sum_by-cons}
-use Rattle.level_work.specs.Counts.{is_failed}
-use Rattle.level_work.specs.declared.items.Fate.{Fate}
+use Rattle.level_work.proofs.Prelude.{◌≡◌, ℕ, true, false, cond, List, [], ◌∷◌, refl, ap, arith, AllByRecursion, count_by, sum_by-cons, is_failed, Fate}
 
 pub unfailed : (rows : List (List ℕ × Fate)) → count_by (λ row. is_failed row.1) rows ≡ 0 → AllByRecursion (λ row. is_failed row.1 ≡ false) rows
 unfailed [] e = tt

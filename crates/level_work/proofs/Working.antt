@@ -1,20 +1,10 @@
 -- The work on a share, item by item.
-use Rattle.std.proofs.Common.{◌≡◌, ◌≢◌, ◌⊎◌, inl, inr, ℕ, zero, suc, ◌+◌, ◌<◌, true, false, cond, List, [], ◌∷◌, ◌++◌, length, Option, Some}
-use Rattle.std.proofs.Common.{None, IfSome, Ok, refl, ap, ◌∙◌, sym, subst, arith, length-append, is_some, slice_get}
-use Rattle.std.proofs.lemmas.Bool.{false≢true}
-use Rattle.std.proofs.lemmas.Option.{slice_get_within}
-use Rattle.std.proofs.lemmas.List.Sums.{sum_by-append}
-use Rattle.std.specs.List.{count_by}
-use Rattle.path_text.specs.Order.{is_within}
-use Rattle.outside.specs.Tree.{Files}
-use Rattle.outside.specs.Writes.{Area, SameBut}
-use Rattle.level_work.specs.Acts.{Deed, IsDone, at_and_under}
-use Rattle.level_work.specs.Counts.{is_failed}
-use Rattle.level_work.specs.Private.Lots.{IsAt, AreApart, SameButFirst, WorkedOn, Blamed, Ready, Keeps, Stepped, Stopped, Upto, HasWorked}
-use Rattle.level_work.specs.declared.items.Item.{Item}
-use Rattle.level_work.specs.declared.items.Fate.{Fate}
+use Rattle.level_work.proofs.Prelude.{◌≡◌, ◌≢◌, ◌⊎◌, inl, inr, ℕ, zero, suc, ◌+◌, ◌<◌, true, false, cond, List, [], ◌∷◌, ◌++◌, length, Option, Some, None}
+use Rattle.level_work.proofs.Prelude.{IfSome, refl, ap, ◌∙◌, sym, subst, arith, length-append, is_some, slice_get, false≢true, slice_get_within, sum_by-append}
+use Rattle.level_work.proofs.Prelude.{count_by, is_within, Files, Area, SameBut, Deed, IsDone, at_and_under, is_failed, IsAt, AreApart, SameButFirst, WorkedOn}
+use Rattle.level_work.proofs.Prelude.{Blamed, Ready, Keeps, Stepped, Stopped, Upto, HasWorked, Item, Fate, Lot}
+use Rattle.std.proofs.Common.{Ok}
 use Rattle.level_work.specs.declared.items.Fate.TheVariants as fate
-use Rattle.level_work.specs.declared.lots.Lot.{Lot}
 use Rattle.level_work.proofs.Frames.{one_elsewhere, same_at, apart_is_other}
 
 held : {X : Type 0} → X → Option X → X

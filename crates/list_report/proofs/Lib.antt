@@ -1,3 +1,4 @@
+mod Prelude
 pub mod MadeWalk
 pub mod Steps
 pub mod Succeeds

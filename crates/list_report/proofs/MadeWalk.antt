@@ -1,37 +1,14 @@
 -- The walk of a made-up tree, in which nothing fails: no child is too far down, and it is no longer than the nodes and `/`.
-use Rattle.std.proofs.Common.{◌≡◌, ℕ, ◌-◌, ◌≤◌, zero, suc, true, false, ◌||◌, cond, List}
-use Rattle.std.proofs.Common.{[], ◌∷◌, length, Option, Some, None, refl, ap, ◌∙◌, sym, subst, arith}
-use Rattle.std.specs.Prelude.{All}
-use Rattle.std.specs.Option.{is_some, IsSome}
-use Rattle.std.specs.List.{AllByRecursion, Contains, flat_map, list_any, count_by}
+use Rattle.list_report.proofs.Prelude.{◌≡◌, ℕ, ◌-◌, ◌≤◌, zero, suc, true, false, ◌||◌, cond, List, [], ◌∷◌, length, Option, Some, None, refl, ap, ◌∙◌, sym}
+use Rattle.list_report.proofs.Prelude.{subst, arith, All, is_some, IsSome, AllByRecursion, Contains, flat_map, list_any, count_by, lookup, eq_by_cmp}
+use Rattle.list_report.proofs.Prelude.{eq_by_cmp_equiv, bytes_decides, get, len, len-entries, entries, contains_key-keys, false≢true, common_steps, length-map}
+use Rattle.list_report.proofs.Prelude.{All-from_recursion, recursion_from_All, sum_by-cons, IsDistinct-from_sorted, is_some-lookup, length-le_from_keys}
+use Rattle.list_report.proofs.Prelude.{path_cmp, refusal, path_cmp_total, path_cmp_ties, Files, Node, far_at, IsTree, Entry, bit, walk_down, all_told, told}
+use Rattle.list_report.proofs.Prelude.{entry_of, children_of, paths_of, WalkAscends, WalkFindsAll, is_in, is_in_some, IsRoots, test_files, FirstNodeIsThere}
+use Rattle.list_report.proofs.Prelude.{TestFilesAreTree, NoChildIsFar, NodesAreCounted, MadeWalkIsFine, made_root, all_join}
 use Rattle.std.specs.List.Sorted.{IsStrictlySortedBy}
-use Rattle.std.specs.Map.{lookup}
-use Rattle.std.specs.Ordering.{eq_by_cmp}
-use Rattle.std.specs.Cmp.{eq_by_cmp_equiv}
-use Rattle.std.specs.Cmp.Lexicographic.{bytes_decides}
-use Rattle.std.specs.FinMap.{get, len, len-entries, entries, contains_key-keys}
-use Rattle.std.proofs.lemmas.Bool.{false≢true}
-use Rattle.std.proofs.lemmas.Grind.{common_steps}
-use Rattle.std.proofs.lemmas.List.{length-map}
-use Rattle.std.proofs.lemmas.List.Elements.{All-from_recursion, recursion_from_All}
-use Rattle.std.proofs.lemmas.List.Sums.{sum_by-cons}
-use Rattle.std.proofs.lemmas.Map.Keys.{IsDistinct-from_sorted}
-use Rattle.std.proofs.lemmas.Map.Made.{is_some-lookup}
-use Rattle.std.proofs.lemmas.Map.Steps.{length-le_from_keys}
-use Rattle.path_text.specs.Order.{path_cmp}
-use Rattle.path_text.specs.Path.{refusal}
-use Rattle.path_text.specs.Total.{path_cmp_total, path_cmp_ties}
-use Rattle.outside.specs.Tree.{Files, Node, far_at, IsTree}
-use Rattle.entry_pages.specs.declared.entries.Entry.{Entry}
 use Rattle.entry_pages.specs.declared.entries.Mark.TheVariants as mark
-use Rattle.entry_pages.proofs.Counted.{bit}
-use Rattle.tree_walk.specs.Walk.{walk, walk_down, all_told, told, entry_of, children_of, paths_of, WalkAscends, WalkFindsAll}
-use Rattle.tree_walk.specs.Roots.{is_in, is_in_some, IsRoots}
-use Rattle.test_tree.specs.Nodes.{test_files}
-use Rattle.test_tree.specs.Laws.{FirstNodeIsThere, TestFilesAreTree, NoChildIsFar, NodesAreCounted}
-use Rattle.list_report.specs.Laws.{MadeWalkIsFine}
-use Rattle.list_report.specs.Tests.{made_root}
-use Rattle.flat_list.proofs.Pieces.{all_join}
+use Rattle.tree_walk.specs.Walk.{walk}
 
 -- what holds of the entry of each path holds of a walk
 

@@ -1,18 +1,6 @@
 -- What the steps of each tool told, as its own words say it.
-use Rattle.std.proofs.Common.{◌≡◌, inl, inr, ⊎_elim, ℕ, ◌≤◌, List, [], ◌∷◌, Some, subst}
-use Rattle.outside.specs.Tree.{Files}
-use Rattle.entry_pages.specs.declared.entries.Entry.{Entry}
-use Rattle.test_tree.specs.Nodes.{test_files}
-use Rattle.tool_text.specs.declared.noting.Note.{Note}
-use Rattle.tool_words.specs.Asked.{ListAsked}
-use Rattle.run_report.specs.declared.stops.Stop.{Stop}
-use Rattle.run_report.specs.Sides.{Side, side_with}
-use Rattle.run_entries.specs.declared.accounts.Account.{Account}
-use Rattle.run_entries.specs.Entries.{Finds}
-use Rattle.run_entries.specs.Saving.{output_of}
-use Rattle.run_entries.specs.Stopping.{StopsFinding, StopsSaving}
-use Rattle.list_report.specs.Lists.{StopsList}
-use Rattle.list_report.specs.Tests.{made_root, made_side}
+use Rattle.list_report.proofs.Prelude.{◌≡◌, inl, inr, ⊎_elim, ℕ, ◌≤◌, List, [], ◌∷◌, Some, subst, Files, Entry, test_files, Note, ListAsked, Stop, Side}
+use Rattle.list_report.proofs.Prelude.{side_with, Account, Finds, output_of, StopsFinding, StopsSaving, StopsList, made_root, made_side}
 
 -- ---- dwalk and dfind
 

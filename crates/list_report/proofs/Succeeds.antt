@@ -1,26 +1,11 @@
 -- When dwalk, dfind and dtest succeed.
-use Rattle.std.proofs.Common.{◌≡◌, inr, ⊎_elim, ℕ, ◌≤◌, true, List, [], ◌∷◌, length, Option, Some, None, IfSome, refl, ap, arith, ◌∙◌}
+use Rattle.list_report.proofs.Prelude.{◌≡◌, inr, ⊎_elim, ℕ, ◌≤◌, true, List, [], ◌∷◌, length, Option, Some, None, IfSome, refl, ap, arith, ◌∙◌}
+use Rattle.list_report.proofs.Prelude.{All-from_recursion, StoodStill, Files, can_save, Entry, test_files, Valid, WithinList, roots, Choice, ListAsked, Report}
+use Rattle.list_report.proofs.Prelude.{Stop, Side, side_with, Output, tests_in, chosen_of, output_of, StopsFinding, IsFineSide, FineFindsNameNothing}
+use Rattle.list_report.proofs.Prelude.{FineFindsStopForMemory, FinePlacesStopForMemory, FineListSucceeds, FineTestSucceeds, MadeWalkIsFine, ReportsList}
+use Rattle.list_report.proofs.Prelude.{StopsList, FineList, made_root, made_side}
 use Rattle.std.specs.List.{All}
-use Rattle.std.proofs.lemmas.List.Elements.{All-from_recursion}
-use Rattle.outside.specs.Count.{StoodStill}
-use Rattle.outside.specs.Tree.{Files}
-use Rattle.outside.specs.Whole.{can_save}
-use Rattle.entry_pages.specs.declared.entries.Entry.{Entry}
-use Rattle.test_tree.specs.Nodes.{test_files}
-use Rattle.tool_words.specs.Limits.{Valid, WithinList}
-use Rattle.tool_words.specs.Asked.{roots, Choice, ListAsked}
-use Rattle.run_report.specs.declared.reports.Report.{Report}
-use Rattle.run_report.specs.declared.stops.Stop.{Stop}
 use Rattle.run_report.specs.declared.stops.Stop.TheVariants as stop
-use Rattle.run_report.specs.Sides.{Side, side_with}
-use Rattle.run_entries.specs.declared.saving.Output.{Output}
-use Rattle.run_entries.specs.Choosing.{tests_in, chosen_of}
-use Rattle.run_entries.specs.Saving.{output_of}
-use Rattle.run_entries.specs.Stopping.{StopsFinding}
-use Rattle.run_entries.specs.Fine.{IsFineSide, FineFindsNameNothing, FineFindsStopForMemory, FinePlacesStopForMemory}
-use Rattle.list_report.specs.Laws.{FineListSucceeds, FineTestSucceeds, MadeWalkIsFine}
-use Rattle.list_report.specs.Lists.{ReportsList, StopsList, FineList}
-use Rattle.list_report.specs.Tests.{made_root, made_side}
 
 -- a count that stood still did so in both of its parts
 stood_before : (old between new : ℕ) → old ≤ between → between ≤ new → StoodStill old new → StoodStill old between

@@ -1,20 +1,8 @@
 -- How a run ended whose words were read.
-use Rattle.std.proofs.Common.{◌≡◌, ◌⊎◌, inl, inr, ⊎_elim, ℕ, List, true, sym, ap, subst, ◌∙◌}
-use Rattle.std.specs.Prelude.{Result, Ok, Err, IfOk, IfSome, Option, Some, None}
-use Rattle.outside.specs.Count.{StoodStill}
-use Rattle.tool_words.specs.declared.commands.Command.{Command}
-use Rattle.tool_words.specs.declared.errors.WordsError.{WordsError}
-use Rattle.tool_words.specs.declared.errors.Refusal.{Refusal}
-use Rattle.tool_words.specs.Asked.{Asked, asked_by}
-use Rattle.tool_words.specs.Words.{reading}
-use Rattle.tool_words.specs.Limits.{Within, WordsAskWithinLimits}
-use Rattle.run_report.specs.declared.reports.Report.{Report}
-use Rattle.run_report.specs.declared.statuses.Status.{Status}
+use Rattle.mfu_top.proofs.Prelude.{◌≡◌, ◌⊎◌, inl, inr, ⊎_elim, ℕ, List, true, sym, ap, subst, ◌∙◌, Result, Ok, Err, IfOk, IfSome, Option, Some, None}
+use Rattle.mfu_top.proofs.Prelude.{StoodStill, Command, WordsError, Refusal, Asked, asked_by, reading, Within, WordsAskWithinLimits, Report, Status, Stop, Side}
+use Rattle.mfu_top.proofs.Prelude.{Stream, Told, ToldRefusal, status_of, Reports, Stops, Fine, may_stop, EndsInTime, EndedWell, FineRunsSucceed}
 use Rattle.run_report.specs.declared.statuses.Status.TheVariants as status
-use Rattle.run_report.specs.declared.stops.Stop.{Stop}
-use Rattle.run_report.specs.Sides.{Side, Stream}
-use Rattle.run_report.specs.Stops.{Told, ToldRefusal, status_of}
-use Rattle.mfu_top.specs.Run.{Reports, Stops, Fine, may_stop, EndsInTime, EndedWell, FineRunsSucceed}
 
 -- what words ask for is within limits
 pub within : (words : List (List ℕ)) (r : Result Command WordsError) → WordsAskWithinLimits → IfOk r (λ command. reading words ≡ Ok (asked_by command)) →

@@ -1,3 +1,4 @@
+mod Prelude
 pub mod Ended
 pub mod Succeeds
 pub mod Still

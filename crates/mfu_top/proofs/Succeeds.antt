@@ -1,16 +1,7 @@
 -- When a run succeeds, a line a tool.
-use Rattle.std.proofs.Common.{inl, ℕ}
-use Rattle.tool_words.specs.Asked.{Asked, list, stage, compare, copy, sync, dup, remove, test}
-use Rattle.compare_report.specs.Laws.{FineCompareSucceeds}
-use Rattle.copy_report.specs.Laws.{FineCopySucceeds}
-use Rattle.dup_report.specs.Laws.{FineDupSucceeds}
-use Rattle.list_report.specs.Laws.{FineListSucceeds, FineTestSucceeds}
-use Rattle.remove_report.specs.Laws.{FineRemoveSucceeds}
-use Rattle.stage_report.specs.Laws.{FineStageSucceeds}
-use Rattle.sync_report.specs.Laws.{FineSyncSucceeds}
-use Rattle.run_report.specs.Sides.{Side}
-use Rattle.run_report.specs.Stops.{Succeeds}
-use Rattle.mfu_top.specs.Run.{Reports, Stops, RunSucceeds, FineRunsSucceed}
+use Rattle.mfu_top.proofs.Prelude.{inl, ℕ, Asked, list, stage, compare, copy, sync, dup, remove, test, FineCompareSucceeds, FineCopySucceeds, FineDupSucceeds}
+use Rattle.mfu_top.proofs.Prelude.{FineListSucceeds, FineTestSucceeds, FineRemoveSucceeds, FineStageSucceeds, FineSyncSucceeds, Side, Succeeds, Reports, Stops}
+use Rattle.mfu_top.proofs.Prelude.{RunSucceeds, FineRunsSucceed}
 
 -- the law of each room
 pub record Rooms : Type 0 where

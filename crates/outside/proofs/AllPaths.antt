@@ -1,8 +1,6 @@
 -- The first of some paths, one after the other.
-use Rattle.std.proofs.Common.{◌≡◌, ◌<◌, ◌≤◌, ℕ, ◌+◌, List, Some, None, ap, ◌∙◌, sym, arith, slice_get, get_or, length}
-use borrow.Author.Count.{below_more}
-use Rattle.std.proofs.lemmas.Option.{slice_get_within, get_or_from_slice_get}
-use Rattle.path_text.specs.Path.{refusal}
+use Rattle.outside.proofs.Prelude.{◌≡◌, ◌<◌, ◌≤◌, ℕ, ◌+◌, List, Some, None, ap, ◌∙◌, sym, arith, slice_get, get_or, length, below_more, slice_get_within}
+use Rattle.outside.proofs.Prelude.{get_or_from_slice_get, refusal}
 
 -- the first k are paths
 abbrev pub FirstValid : List (List ℕ) → ℕ → Type 0

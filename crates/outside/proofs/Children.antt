@@ -1,12 +1,7 @@
 -- The name of a child, from the path of the child.
-use Rattle.std.proofs.Common.{◌≡◌, ℕ, ◌<◌, Bool, true, false, ◌&&◌, List, ◌++◌, length, drop, refl, ap, ◌∙◌, sym, subst, arith, cond, eqb, Some, None}
-use Rattle.std.specs.List.{list_any, starts_with}
-use Rattle.std.proofs.lemmas.Bool.Decides.{nat_tests}
-use Rattle.path_text.specs.Order.{front}
-use Rattle.path_text.specs.Path.{is_slash}
-use Rattle.path_text.proofs.Parts.{begins}
+use Rattle.outside.proofs.Prelude.{◌≡◌, ℕ, ◌<◌, Bool, true, false, ◌&&◌, List, ◌++◌, length, drop, refl, ap, ◌∙◌, sym, subst, arith, cond, eqb, Some, None}
+use Rattle.outside.proofs.Prelude.{list_any, starts_with, nat_tests, front, is_slash, begins, is_one_name, name_below}
 use Rattle.path_text.proofs.Preordered as after
-use Rattle.outside.specs.Tree.{is_one_name, name_below}
 
 -- of a text that begins as the children do
 pub name_below-front : (p x rest : List ℕ) → x ≡ front p ++ rest → name_below p x ≡ cond (is_one_name rest) (Some rest) None

@@ -1,14 +1,8 @@
 -- The first of the files that are out in spans.
-use Rattle.std.proofs.Common.{◌≡◌, ℕ, suc, not, ◌+◌, ◌<◌, Bool, true, false, cond, List, [], ◌∷◌, length, refl, ap, ◌∙◌, sym, arith}
-use Rattle.std.proofs.Common.{nat_eq, get_or, slice_get, Some, None, is_some}
-use Rattle.std.specs.List.{remove, position, position_or_len}
-use Rattle.std.specs.Cmp.Lexicographic.{pointwise, bytes_decides}
-use Rattle.std.specs.Prelude.{nat_lt}
-use Rattle.std.proofs.lemmas.Bool.{false≢true}
-use Rattle.std.proofs.lemmas.Bool.Decides.{nat_tests}
-use Rattle.std.proofs.lemmas.Option.{slice_get-get_or}
-use Rattle.outside.specs.Writes.{Cut}
-use Rattle.outside.specs.Spans.{cuts_at, without_cut}
+use Rattle.outside.proofs.Prelude.{◌≡◌, ℕ, suc, not, ◌+◌, ◌<◌, Bool, true, false, cond, List, [], ◌∷◌, length, refl, ap, ◌∙◌, sym, arith, nat_eq, get_or}
+use Rattle.outside.proofs.Prelude.{slice_get, Some, None, remove, position, position_or_len, pointwise, bytes_decides, nat_lt, false≢true, nat_tests}
+use Rattle.outside.proofs.Prelude.{slice_get-get_or, Cut, cuts_at, without_cut}
+use Rattle.std.proofs.Common.{is_some}
 
 -- the file is the one at the path
 abbrev pub is_of : List ℕ → Cut → Bool

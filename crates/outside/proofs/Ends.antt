@@ -1,11 +1,8 @@
 -- The names in one text: how many they are, the one at a place, and one more.
-use Rattle.std.proofs.Common.{◌≡◌, ℕ, ◌-◌, ◌<◌, ◌≤◌, List, [], ◌∷◌, ◌++◌, length, Some, zero, suc, arith, refl, sym, ap, ◌∙◌, subst}
-use Rattle.std.specs.Prelude.{slice_get, slice_index, slice_range, take, drop}
-use Rattle.std.specs.Str.{IsUtf8, IsCharBoundary}
-use Rattle.std.proofs.lemmas.List.{drop-append-le, take-append-le, length-append, length-drop, take_all, get_or_append_left}
-use Rattle.std.proofs.Math.Seq.{drop-append_seam}
-use Rattle.std.proofs.lemmas.Str.{IsCharBoundary-end, IsCharBoundary-at_seam}
-use Rattle.outside.specs.Listed.{names_from, AreEndsFrom}
+use Rattle.outside.proofs.Prelude.{◌≡◌, ℕ, ◌-◌, ◌<◌, ◌≤◌, List, [], ◌∷◌, ◌++◌, length, Some, zero, suc, arith, refl, sym, ap, ◌∙◌, subst, slice_index}
+use Rattle.outside.proofs.Prelude.{slice_range, IsUtf8, IsCharBoundary, drop-append-le, take-append-le, length-append, length-drop, take_all}
+use Rattle.outside.proofs.Prelude.{get_or_append_left, drop-append_seam, IsCharBoundary-end, IsCharBoundary-at_seam, names_from, AreEndsFrom}
+use Rattle.std.specs.Prelude.{slice_get, take, drop}
 
 pub names_len : (start : ℕ) (text ends : List ℕ) → length (names_from start text ends) ≡ length ends
 names_len start text [] = refl

@@ -1,22 +1,11 @@
 -- Leases keep trees.
-use Rattle.std.proofs.Common.{◌≡◌, ◌⊎◌, inl, inr, ℕ, suc, ◌<◌, Bool, true, false, cond, not, ◌||◌, ◌&&◌, List, [], ◌∷◌}
-use Rattle.std.proofs.Common.{Option, Some, None, refl, ap, ◌∙◌, sym, arith, nat_eq, is_some, is_none}
-use Rattle.std.proofs.Common.{slice_get}
-use Rattle.std.specs.Prelude.{IsTrue}
-use Rattle.std.proofs.lemmas.Bool.{false≢true}
-use Rattle.std.specs.FinMap.{get, get-retain_keys}
-use Rattle.std.specs.Cmp.Lexicographic.{pointwise, bytes_decides}
-use Rattle.path_text.specs.Order.{is_within, is_under}
-use Rattle.path_text.specs.Path.{refusal, parent_of, level_of}
-use Rattle.path_text.specs.Total.{path_cmp_same}
-use Rattle.path_text.specs.declared.errors.PathError.{PathError}
-use Rattle.outside.specs.Tree.{Files, Node, IsTree, is_placed, is_dir, is_root}
-use Rattle.outside.specs.Lease.{in_tops, leased, kept, Joins, HaveParents}
-use Rattle.outside.specs.Parts.{IsPart, AreTops}
-use Rattle.outside.specs.Writes.{under as under_tops, is_top}
-use Rattle.path_text.proofs.Levels.{as_deep, parent_above}
-use Rattle.path_text.proofs.Parents.{parent_under}
-use Rattle.path_text.proofs.Within.{some_bytes, within_up}
+use Rattle.outside.proofs.Prelude.{◌≡◌, ◌⊎◌, inl, inr, ℕ, suc, ◌<◌, Bool, true, false, cond, not, ◌||◌, ◌&&◌, List, [], ◌∷◌, Option, Some, None, refl, ap, ◌∙◌}
+use Rattle.outside.proofs.Prelude.{sym, arith, nat_eq, slice_get, IsTrue, false≢true, get, get-retain_keys, pointwise, bytes_decides, is_within, is_under}
+use Rattle.outside.proofs.Prelude.{refusal, parent_of, level_of, path_cmp_same, PathError, Files, Node, is_placed, is_dir, is_root, in_tops, leased, kept}
+use Rattle.outside.proofs.Prelude.{Joins, HaveParents, IsPart, AreTops, is_top, as_deep, parent_above, parent_under, some_bytes, within_up}
+use Rattle.std.proofs.Common.{is_some, is_none}
+use Rattle.outside.specs.Tree.{IsTree}
+use Rattle.outside.specs.Writes.{under as under_tops}
 
 pub or_true : (b : Bool) → (b || true) ≡ true
 or_true true = refl

@@ -1,11 +1,8 @@
 -- What is written for a link's text is read as that text, and nothing else is.
-use Rattle.std.proofs.Common.{◌≡◌, ℕ, ◌≤◌, true, false, List, length, refl, ap, sym, ◌∙◌, arith, cond, Option, Some, None, Ok, Err}
-use Rattle.std.specs.Prelude.{nat_lt}
-use Rattle.std.proofs.lemmas.Bool.Decides.{nat_tests}
-use Rattle.path_text.specs.Escape.{escape, good_len, unescaped, UnescapingUndoesEscaping}
-use Rattle.outside.specs.declared.links.LinkTextError.{LinkTextError}
-use Rattle.outside.specs.declared.links.LinkTextError.TheVariants.{BadEscape}
-use Rattle.outside.specs.Links.{link_refusal, link_of, link_reading, LinkReadingUndoesWriting}
+use Rattle.outside.proofs.Prelude.{◌≡◌, ℕ, ◌≤◌, true, false, List, length, refl, ap, sym, ◌∙◌, arith, cond, Option, Some, None, nat_lt, nat_tests, escape}
+use Rattle.outside.proofs.Prelude.{good_len, unescaped, UnescapingUndoesEscaping, LinkTextError, BadEscape, link_refusal, link_of, link_reading}
+use Rattle.outside.proofs.Prelude.{LinkReadingUndoesWriting}
+use Rattle.std.proofs.Common.{Ok, Err}
 
 no_less : (m n : ℕ) → m ≡ n → nat_lt m n ≡ false
 no_less m n e = grind (arith, nat_tests)

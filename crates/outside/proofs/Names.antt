@@ -1,30 +1,13 @@
 -- The names of the children of a directory are names, and ascend in byte order.
-use Rattle.std.proofs.Common.{◌≡◌, ℕ, ◌≤◌, Bool, true, false, cond, ◌&&◌, ◌||◌, List, [], ◌∷◌, ◌++◌, map, length, Option, Some, None, refl}
-use Rattle.std.proofs.Common.{ap, ◌∙◌, sym, subst, arith}
-use Rattle.std.proofs.lemmas.Bool.{false≢true, or_parts}
-use Rattle.std.specs.Prelude.{IsTrue, T}
-use Rattle.std.specs.Option.{is_none, is_some}
-use Rattle.std.specs.List.{list_any, AllByRecursion, filter_map, cons_option, Contains}
+use Rattle.outside.proofs.Prelude.{◌≡◌, ℕ, ◌≤◌, Bool, true, false, cond, ◌&&◌, ◌||◌, List, [], ◌∷◌, ◌++◌, map, length, Option, Some, None, refl, ap, ◌∙◌, sym}
+use Rattle.outside.proofs.Prelude.{subst, arith, false≢true, or_parts, IsTrue, T, is_none, is_some, list_any, AllByRecursion, filter_map, cons_option, Contains}
+use Rattle.outside.proofs.Prelude.{nat_cmp, ordering_then, is_lt, eq_by_cmp_equiv, first_so, slice_cmp, bytes_decides, Ordering, Less, Equal, Greater, get}
+use Rattle.outside.proofs.Prelude.{keys, entries, entries_sorted, contains_key-keys, is_sorted, below_all, All-from_recursion, recursion_from_All}
+use Rattle.outside.proofs.Prelude.{All-contains_itself, list_any-from_Contains, nat_tests, PathError, path_cmp, byte_rank, front, path_cmp_total, name_behind}
+use Rattle.outside.proofs.Prelude.{short, front-joined, behind, is_slash, refusal, is_name, joined, parent_of, Files, Node, is_dir, is_root, name_below}
+use Rattle.outside.proofs.Prelude.{AreNames, ChildrenAreNames}
 use Rattle.std.specs.List.Sorted.{IsStrictlySortedBy}
-use Rattle.std.specs.Ordering.{nat_cmp, ordering_then, is_lt}
-use Rattle.std.specs.Cmp.{eq_by_cmp_equiv, first_so}
-use Rattle.std.specs.Cmp.Lexicographic.{slice_cmp, bytes_decides}
-use Rattle.std.specs.declared.cmp.Ordering.{Ordering}
-use Rattle.std.specs.declared.cmp.Ordering.TheVariants.{Less, Equal, Greater}
-use Rattle.std.specs.FinMap.{get, keys, entries, entries_sorted, contains_key-keys, is_sorted}
-use Rattle.std.specs.FinMap.Entries.{below_all}
-use Rattle.std.proofs.lemmas.List.Elements.{All-from_recursion, recursion_from_All, All-contains_itself}
-use Rattle.std.proofs.lemmas.Map.Views.{list_any-from_Contains}
-use Rattle.std.proofs.lemmas.Bool.Decides.{nat_tests}
-use Rattle.path_text.specs.declared.errors.PathError.{PathError}
-use Rattle.path_text.specs.Order.{path_cmp, byte_rank, front}
-use Rattle.path_text.specs.Total.{path_cmp_total}
-use Rattle.path_text.proofs.Parents.{name_behind}
-use Rattle.path_text.proofs.Parts.{short}
-use Rattle.path_text.proofs.Preorder.{front-joined}
-use Rattle.path_text.proofs.Words.{behind}
-use Rattle.path_text.specs.Path.{is_slash, refusal, is_name, joined, parent_of}
-use Rattle.outside.specs.Tree.{Files, Node, IsTree, is_dir, is_root, name_below, AreNames, ChildrenAreNames}
+use Rattle.outside.specs.Tree.{IsTree}
 use Rattle.outside.proofs.Children.{child_is, one_name_parts}
 
 -- each path of a tree is one

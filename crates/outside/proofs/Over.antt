@@ -1,15 +1,9 @@
 -- In a tree all that a path is under is a directory.
-use Rattle.std.proofs.Common.{◌≡◌, ℕ, zero, suc, ◌≤◌, true, false, ◌||◌, List, [], ◌∷◌}
-use Rattle.std.proofs.Common.{length, None, refl, sym, subst, arith, nat_eq, is_some}
-use Rattle.std.specs.FinMap.{get}
-use Rattle.std.specs.Cmp.Lexicographic.{pointwise, bytes_decides}
-use Rattle.path_text.specs.Order.{is_under}
-use Rattle.path_text.specs.Path.{refusal, parent_of}
-use Rattle.outside.specs.Tree.{Files, IsTree, is_dir, is_root}
+use Rattle.outside.proofs.Prelude.{◌≡◌, ℕ, zero, suc, ◌≤◌, true, false, ◌||◌, List, [], ◌∷◌, length, None, refl, sym, subst, arith, nat_eq, get, pointwise}
+use Rattle.outside.proofs.Prelude.{bytes_decides, is_under, refusal, parent_of, Files, IsTree, is_dir, is_root, parent_moves_too, parent_under, under_longer}
+use Rattle.outside.proofs.Prelude.{under_no_root}
+use Rattle.std.proofs.Common.{is_some}
 use Rattle.outside.proofs.Leased.{at_tree, dir_is_there}
-use Rattle.path_text.proofs.Carried.{parent_moves_too}
-use Rattle.path_text.proofs.Parents.{parent_under}
-use Rattle.path_text.proofs.Within.{under_longer, under_no_root}
 
 root_fine : (r : List ℕ) → is_root r ≡ true → refusal r ≡ None
 root_fine r e = subst (λ x. refusal x ≡ None) (sym ((bytes_decides r (47 ∷ [])).0 e)) refl

@@ -1,12 +1,6 @@
 -- Two leases at once.
-use Rattle.std.proofs.Common.{◌≡◌, ℕ, Bool, true, false, cond, not, List, None, refl, ap, ◌∙◌, sym}
-use Rattle.std.proofs.lemmas.Bool.{false≢true}
-use Rattle.std.specs.FinMap.{get, same_map}
-use Rattle.path_text.specs.Total.{path_cmp_total, path_cmp_same}
-use Rattle.outside.specs.Tree.{Files}
-use Rattle.outside.specs.Lease.{in_tops, leased, kept}
-use Rattle.outside.specs.Laid.{laid, get_laid}
-use Rattle.outside.specs.Parts.{LeasesOverlap}
+use Rattle.outside.proofs.Prelude.{◌≡◌, ℕ, Bool, true, false, cond, not, List, None, refl, ap, ◌∙◌, sym, false≢true, get, same_map, path_cmp_total}
+use Rattle.outside.proofs.Prelude.{path_cmp_same, Files, in_tops, leased, kept, laid, get_laid, LeasesOverlap}
 use Rattle.outside.proofs.Leased.{get_rest, get_part}
 
 pub leases_overlap : LeasesOverlap

@@ -1,19 +1,8 @@
 -- A path is a child of its parent.
-use Rattle.std.proofs.Common.{◌≡◌, ℕ, ◌<◌, true, false, not, cond, ◌&&◌, ◌||◌, List, [], ◌∷◌, length}
-use Rattle.std.proofs.Common.{Option, Some, None, refl, ap, ◌∙◌, sym, arith}
-use Rattle.std.proofs.lemmas.Bool.{false≢true}
-use Rattle.std.proofs.lemmas.Bool.Decides.{nat_tests}
-use Rattle.std.specs.Prelude.{◌==◌}
-use Rattle.std.specs.List.{list_any, filter_map, cons_option}
-use Rattle.std.specs.FinMap.{get, keys, contains_key-keys}
-use Rattle.std.specs.Option.{is_some}
-use Rattle.std.specs.Ordering.{eq_by_cmp}
-use Rattle.std.specs.Cmp.Lexicographic.{bytes_decides}
-use Rattle.path_text.specs.Order.{path_cmp}
-use Rattle.path_text.specs.Total.{path_cmp_ties}
-use Rattle.path_text.proofs.Parents.{cut}
-use Rattle.path_text.specs.Path.{is_slash, refusal, parent_of}
-use Rattle.outside.specs.Tree.{Files, is_root, is_one_name, name_below, names_in, ChildrenHaveParents}
+use Rattle.outside.proofs.Prelude.{◌≡◌, ℕ, ◌<◌, true, false, not, cond, ◌&&◌, ◌||◌, List, [], ◌∷◌, length, Option, Some, None, refl, ap, ◌∙◌, sym, arith}
+use Rattle.outside.proofs.Prelude.{false≢true, nat_tests, ◌==◌, list_any, filter_map, cons_option, get, keys, contains_key-keys, is_some, eq_by_cmp}
+use Rattle.outside.proofs.Prelude.{bytes_decides, path_cmp, path_cmp_ties, cut, is_slash, refusal, parent_of, Files, is_root, is_one_name, name_below, names_in}
+use Rattle.outside.proofs.Prelude.{ChildrenHaveParents}
 use Rattle.outside.proofs.Children.{name_below-front}
 
 one_name : (name : List ℕ) → 0 < length name → list_any is_slash name ≡ false → is_one_name name ≡ true

@@ -1,20 +1,11 @@
 -- What is leased of a tree is a part.
-use Rattle.std.proofs.Common.{◌≡◌, ℕ, Bool, true, false, cond, ◌||◌, List, Option, Some, None, refl, ap, ◌∙◌, sym, subst, nat_eq}
-use Rattle.std.proofs.Common.{is_some, slice_get, []}
-use Rattle.std.proofs.lemmas.Bool.{false≢true}
-use Rattle.std.proofs.lemmas.Option.{slice_get_within, get_or_from_slice_get}
-use Rattle.std.proofs.lemmas.List.Folds.{list_any_at}
-use Rattle.std.specs.FinMap.{get}
-use Rattle.std.specs.Cmp.Lexicographic.{pointwise, bytes_decides}
-use Rattle.path_text.specs.Order.{is_within, is_under}
-use Rattle.path_text.specs.Path.{parent_of}
-use Rattle.outside.specs.Tree.{Files, Node, IsTree, is_dir, is_root}
-use Rattle.outside.specs.Lease.{in_tops, leased}
-use Rattle.outside.specs.Parts.{IsPart, AreTops, LeasesKeepTrees}
-use Rattle.outside.specs.Writes.{under, is_top}
+use Rattle.outside.proofs.Prelude.{◌≡◌, ℕ, Bool, true, false, cond, ◌||◌, List, Option, Some, None, refl, ap, ◌∙◌, sym, subst, nat_eq, slice_get, []}
+use Rattle.outside.proofs.Prelude.{false≢true, slice_get_within, get_or_from_slice_get, list_any_at, get, pointwise, bytes_decides, is_within, is_under}
+use Rattle.outside.proofs.Prelude.{parent_of, Files, Node, IsTree, is_dir, is_root, in_tops, leased, IsPart, AreTops, LeasesKeepTrees, under, is_top}
+use Rattle.outside.proofs.Prelude.{parent_moves_too}
+use Rattle.std.proofs.Common.{is_some}
 use Rattle.outside.proofs.Leased.{at_tree, a_top, Standing, get_part, root_off, rest_is_tree, back_is_tree}
 use Rattle.outside.proofs.Over.{valid_there}
-use Rattle.path_text.proofs.Carried.{parent_moves_too}
 
 some_of : (b : Bool) (o : Option Node) → is_some (cond b o None) ≡ true → (b ≡ true) × (is_some o ≡ true)
 some_of true o e = (refl, e)

@@ -1,11 +1,6 @@
 -- The first of some lists of tops.
-use Rattle.std.proofs.Common.{◌≡◌, ℕ, zero, suc, ◌+◌, ◌<◌, ◌≤◌, true, false, cond, ◌||◌, List, [], ◌∷◌, length, get_or, refl, ap}
-use Rattle.std.proofs.Common.{◌∙◌, sym, arith, slice_get, Some}
-use borrow.Author.Count.{below_more}
-use Rattle.std.proofs.lemmas.Bool.{false≢true}
-use Rattle.std.proofs.lemmas.Option.{slice_get_within, get_or_from_slice_get}
-use Rattle.std.specs.List.{list_any, remove}
-use Rattle.outside.specs.Lease.{same_tops, without_tops}
+use Rattle.outside.proofs.Prelude.{◌≡◌, ℕ, zero, suc, ◌+◌, ◌<◌, ◌≤◌, true, false, cond, ◌||◌, List, [], ◌∷◌, length, get_or, refl, ap, ◌∙◌, sym, arith}
+use Rattle.outside.proofs.Prelude.{slice_get, Some, below_more, false≢true, slice_get_within, get_or_from_slice_get, list_any, remove, same_tops, without_tops}
 
 -- none of the first k is these tops
 abbrev pub NoneBefore : ℕ → List (List ℕ) → List (List (List ℕ)) → Type 0

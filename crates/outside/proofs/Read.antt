@@ -1,8 +1,5 @@
 -- A file is read piece by piece.
-use Rattle.std.proofs.Common.{◌≡◌, ℕ, ◌+◌, List, ◌++◌, take, drop, Option, Some, None, IfSome, ◌∙◌, sym, subst}
-use Rattle.std.proofs.Math.Seq.{take-add}
-use Rattle.std.specs.FinMap.{get}
-use Rattle.outside.specs.Tree.{Files, content}
+use Rattle.outside.proofs.Prelude.{◌≡◌, ℕ, ◌+◌, List, ◌++◌, take, drop, Option, Some, None, IfSome, ◌∙◌, sym, subst, take-add, get, Files, content}
 
 -- the front of a list and the piece behind it
 joined : (xs ys : List ℕ) (at n : ℕ) → take at xs ≡ take at ys → take n (drop at xs) ≡ take n (drop at ys) →

@@ -1,26 +1,12 @@
 -- A file is saved step by step.
-use Rattle.std.proofs.Common.{◌≡◌, ℕ, ◌+◌, ◌≤◌, Bool, true, false, cond, ◌&&◌, List, [], ◌∷◌, ◌++◌, length, take, drop, Option, Some, None}
-use Rattle.std.proofs.Common.{IfSome, refl, ap, ◌∙◌, sym, subst, arith, append-nil, nat_eq, ◌≢◌, not}
-use Rattle.std.specs.Prelude.{◌==◌}
-use Rattle.std.proofs.lemmas.Bool.{false≢true}
-use Rattle.std.proofs.lemmas.List.{take_all, drop_all, length-take}
-use Rattle.std.proofs.lemmas.Bool.Decides.{nat_tests}
-use Rattle.std.proofs.Math.Seq.{take-add}
-use Rattle.std.specs.Prelude.{Result, Ok, Err, OnOk, OnErr}
-use Rattle.std.specs.Option.{is_some}
-use Rattle.std.specs.Ordering.{eq_by_cmp}
-use Rattle.std.specs.Cmp.Lexicographic.{pointwise, bytes_decides}
-use Rattle.std.specs.FinMap.{get, insert, remove, get-insert, get-remove, same_map}
-use Rattle.path_text.specs.Order.{path_cmp}
-use Rattle.path_text.specs.Path.{parent_of, refusal}
-use Rattle.path_text.proofs.Within.{not_root, root_is}
-use Rattle.path_text.specs.Total.{path_cmp_total, path_cmp_ties, path_cmp_same}
-use Rattle.outside.specs.Tree.{Files, Node, file, is_file, content}
-use Rattle.outside.specs.Writes.{SameBut, Answers, written, new_file, spliced, time_of}
-use Rattle.outside.specs.Whole.{Holds, Saves, can_put, can_save}
-use Rattle.outside.specs.declared.plots.WriteError.{WriteError}
+use Rattle.outside.proofs.Prelude.{◌≡◌, ℕ, ◌+◌, ◌≤◌, Bool, true, false, cond, ◌&&◌, List, [], ◌∷◌, ◌++◌, length, take, drop, Option, Some, None, IfSome, refl}
+use Rattle.outside.proofs.Prelude.{ap, ◌∙◌, sym, subst, arith, append-nil, nat_eq, ◌≢◌, not, ◌==◌, false≢true, take_all, drop_all, length-take, nat_tests}
+use Rattle.outside.proofs.Prelude.{take-add, Result, Ok, Err, OnOk, OnErr, is_some, eq_by_cmp, pointwise, bytes_decides, get, insert, get-insert, get-remove}
+use Rattle.outside.proofs.Prelude.{same_map, path_cmp, parent_of, refusal, not_root, root_is, path_cmp_total, path_cmp_ties, path_cmp_same, Files, Node, file}
+use Rattle.outside.proofs.Prelude.{is_file, content, SameBut, Answers, written, new_file, spliced, time_of, Holds, Saves, can_put, can_save, WriteError}
+use Rattle.outside.proofs.Prelude.{SaveError}
+use Rattle.std.specs.FinMap.{remove}
 use Rattle.outside.specs.declared.plots.WriteError.TheVariants as write
-use Rattle.outside.specs.declared.saving.SaveError.{SaveError}
 use Rattle.outside.specs.declared.saving.SaveError.TheVariants as e
 
 pub tie : (q p : List ℕ) → eq_by_cmp path_cmp q p ≡ pointwise nat_eq q p

@@ -1,13 +1,8 @@
 -- What was asked and answered on the way.
-use Rattle.std.proofs.Common.{◌≡◌, ℕ, ◌+◌, Bool, List, ◌∷◌, length, take, drop, refl, sym, subst, inl, inr}
-use Rattle.std.specs.Prelude.{Option, Result, Ok, Err, IfErr, OnOk}
-use Rattle.path_text.specs.Path.{parent_of}
-use Rattle.outside.specs.Asked.{Asks, Writes}
+use Rattle.outside.proofs.Prelude.{◌≡◌, ℕ, ◌+◌, Bool, List, ◌∷◌, length, take, drop, refl, sym, subst, inl, inr, Result, Ok, Err, IfErr, OnOk, parent_of, Asks}
+use Rattle.outside.proofs.Prelude.{Writes, over_told, place_told, LookFound, LookStopped, ReadFront, Cleared, WroteFront, SaveEnded, Failed, Stat, SaveError}
+use Rattle.std.specs.Prelude.{Option}
 use Rattle.outside.specs.Asked as asked
-use Rattle.outside.specs.Answered.{over_told, place_told, LookFound, LookStopped, ReadFront, Cleared, WroteFront, SaveEnded}
-use Rattle.outside.specs.declared.failures.Failed.{Failed}
-use Rattle.outside.specs.declared.trees.Stat.{Stat}
-use Rattle.outside.specs.declared.saving.SaveError.{SaveError}
 
 -- a look at the path over a file stops a save
 pub over_stops : {S : Type 0} (gives : Asks S) (parent path : List ℕ) (answer : Result (Option Stat) Failed) (e : SaveError)

@@ -1,14 +1,7 @@
 -- What is left of sorted paths, where each that is the last one kept is dropped, are the paths, each once.
-use Rattle.std.proofs.Common.{◌≡◌, ℕ, true, List, sym, subst, eqb}
-use Rattle.std.specs.List.{All, Contains, dedup}
-use Rattle.std.specs.List.Sorted.{IsSorted, IsStrictlySortedBy, IsPermutation}
-use Rattle.std.specs.Cmp.Lexicographic.{pointwise, bytes_decides, nat_list_eq_equiv}
-use Rattle.std.proofs.lemmas.List.Elements.{All-contains_itself}
-use Rattle.std.proofs.lemmas.List.Filters.{All-dedup}
-use Rattle.std.proofs.lemmas.List.Kept.{Contains-dedup, IsStrictlySortedBy-dedup}
-use Rattle.std.proofs.lemmas.List.Sorted.{IsPermutation-sym, All-permutation}
-use Rattle.path_text.specs.Order.{path_cmp}
-use Rattle.path_text.specs.Total.{path_cmp_total, path_cmp_ties}
+use Rattle.path_looks.proofs.Prelude.{◌≡◌, ℕ, true, List, sym, subst, eqb, All, Contains, dedup, IsSorted, IsStrictlySortedBy, IsPermutation, pointwise}
+use Rattle.path_looks.proofs.Prelude.{bytes_decides, nat_list_eq_equiv, All-contains_itself, All-dedup, Contains-dedup, IsStrictlySortedBy-dedup}
+use Rattle.path_looks.proofs.Prelude.{IsPermutation-sym, All-permutation, path_cmp, path_cmp_total, path_cmp_ties}
 
 same_path : (x y : List ℕ) → pointwise eqb x y ≡ true → x ≡ y
 same_path x y = (bytes_decides x y).0

@@ -1,2 +1,3 @@
+mod Prelude
 pub mod EachOnce
 pub mod Told

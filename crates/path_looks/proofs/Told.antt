@@ -1,23 +1,10 @@
 -- What the looks of a reader at paths tell, once the reader is taken back; and looks that tell of something.
-use Rattle.std.proofs.Common.{◌≡◌, ℕ, ◌<◌, ◌^◌, true, List, [], ◌∷◌, Option, Some, None, Result, Ok, Err, IfOk, refl, ap, ◌∙◌, sym, subst, arith}
-use Rattle.std.specs.List.{All, Contains, sum_by}
+use Rattle.path_looks.proofs.Prelude.{◌≡◌, ℕ, ◌<◌, ◌^◌, true, List, [], ◌∷◌, Option, Some, None, Result, Ok, Err, IfOk, refl, ap, ◌∙◌, sym, subst, arith, All}
+use Rattle.path_looks.proofs.Prelude.{Contains, sum_by, get, OnOk, OnErr, IfSome, MatchOption, is_some, option_map, false≢true, All-nil, All-cons, All-head}
+use Rattle.path_looks.proofs.Prelude.{All-tail, All-contains, get_or-le-sum_by, path_cmp, Files, Node, stat_of, RoseBy, StoodStill, capped, Failed, Stat}
+use Rattle.path_looks.proofs.Prelude.{by_stat, Look, Seen, IsSeen, AreLooks, fault_of, faults_in, paths_of, is_at, LooksWithoutFaultsAreTold}
 use Rattle.std.specs.List.Sorted.{IsStrictlySortedBy}
-use Rattle.std.specs.FinMap.{get}
-use Rattle.std.specs.Prelude.{OnOk, OnErr, IfSome, MatchOption}
-use Rattle.std.specs.Option.{is_some, option_map}
-use Rattle.std.proofs.lemmas.Bool.{false≢true}
-use Rattle.std.proofs.lemmas.List.Elements.{All-nil, All-cons, All-head, All-tail, All-contains}
-use Rattle.std.proofs.lemmas.List.Sums.{get_or-le-sum_by}
-use Rattle.path_text.specs.Order.{path_cmp}
-use Rattle.outside.specs.Tree.{Files, Node, stat_of}
-use Rattle.outside.specs.Count.{RoseBy, StoodStill, capped}
-use Rattle.outside.specs.declared.failures.Failed.{Failed}
-use Rattle.outside.specs.declared.trees.Stat.{Stat}
-use Rattle.path_looks.specs.Answers.{by_stat}
-use Rattle.path_looks.specs.declared.looks.Look.{Look}
-use Rattle.path_looks.specs.declared.looks.Seen.{Seen}
 use Rattle.path_looks.specs.declared.looks.Seen.TheVariants as seen
-use Rattle.path_looks.specs.Looks.{IsSeen, AreLooks, fault_of, faults_in, paths_of, is_at, LooksWithoutFaultsAreTold}
 
 all_paths : (P : List ℕ → Type 0) (looks : List Look) → All P (paths_of looks) → All (λ l. P l.path) looks
 all_paths P [] h = All-nil (λ (l : Look). P l.path)

@@ -1,11 +1,6 @@
 -- The first byte that is written as an escape, found by blocks.
-use Rattle.std.proofs.Common.{◌≡◌, ℕ, ◌+◌, ◌≤◌, Bool, true, false, not, List, [], ◌∷◌, length, take, drop, refl, ◌∙◌, arith, Some, None, cond}
-use Rattle.std.proofs.Common.{zero, suc, length-drop}
-use Rattle.std.specs.Prelude.{nat_lt}
-use Rattle.std.specs.List.{list_any, position, position_or_len}
-use Rattle.std.proofs.lemmas.Bool.Decides.{nat_tests}
-use Rattle.path_text.specs.Escape.{is_escaped}
-use Rattle.std.proofs.lemmas.Bool.{or_parts}
+use Rattle.path_text.proofs.Prelude.{◌≡◌, ℕ, ◌+◌, ◌≤◌, Bool, true, false, not, List, [], ◌∷◌, length, take, drop, refl, ◌∙◌, arith, Some, None, cond, zero, suc}
+use Rattle.path_text.proofs.Prelude.{length-drop, nat_lt, list_any, position, position_or_len, nat_tests, is_escaped, or_parts}
 
 one_more : (b : Bool) (n k : ℕ) → b ≡ false → k ≤ n → suc k ≤ cond (not b) (1 + n) 0
 one_more true n k e h = cc

@@ -1,10 +1,6 @@
 -- A parent moves with its child.
-use Rattle.std.proofs.Common.{◌≡◌, ⊎_elim, ℕ, ◌<◌, List, [], ◌∷◌, ◌++◌, length, None, ap, ◌∙◌, sym, arith}
-use Rattle.std.proofs.Common.{length-append, append_assoc}
-use Rattle.std.specs.Prelude.{IsTrue}
-use Rattle.path_text.specs.Path.{refusal, parent_of}
-use Rattle.path_text.specs.Order.{front, is_under, is_within}
-use Rattle.path_text.specs.Graft.{grafted, below_of, ParentMovesToo}
+use Rattle.path_text.proofs.Prelude.{◌≡◌, ⊎_elim, ℕ, ◌<◌, List, [], ◌∷◌, ◌++◌, length, None, ap, ◌∙◌, sym, arith, length-append, append_assoc, IsTrue, refusal}
+use Rattle.path_text.proofs.Prelude.{parent_of, front, is_under, is_within, grafted, below_of, ParentMovesToo}
 use Rattle.path_text.proofs.Parents.{or_root, some_before, parent_cut, Ended, ended, Cut, cut, parent_valid}
 use Rattle.path_text.proofs.Fronts.{seam}
 use Rattle.path_text.proofs.Parts.{begins, grafted_names, nothing_left}

@@ -1,11 +1,6 @@
 -- Paths of which the fronts begin alike.
-use Rattle.std.proofs.Common.{◌≡◌, ◌⊎◌, inl, inr, ⊎_elim, ℕ, Bool, true, false, ◌||◌, List, [], ◌∷◌, ◌++◌, length, drop, None, refl, ap, ◌∙◌, sym, arith}
-use Rattle.std.proofs.Common.{append-nil, append_assoc}
-use Rattle.std.proofs.lemmas.Bool.{false≢true}
-use Rattle.std.specs.Prelude.{nat_eq, IsTrue}
-use Rattle.std.specs.List.{list_any, starts_with}
-use Rattle.path_text.specs.Path.{is_slash, refusal}
-use Rattle.path_text.specs.Order.{front, is_within}
+use Rattle.path_text.proofs.Prelude.{◌≡◌, ◌⊎◌, inl, inr, ⊎_elim, ℕ, Bool, true, false, ◌||◌, List, [], ◌∷◌, ◌++◌, length, drop, None, refl, ap, ◌∙◌, sym, arith}
+use Rattle.path_text.proofs.Prelude.{append-nil, append_assoc, false≢true, nat_eq, IsTrue, list_any, starts_with, is_slash, refusal, front, is_within}
 use Rattle.path_text.proofs.Parents.{or_root, some_before, Ended, ended}
 use Rattle.path_text.proofs.Preordered.{begins}
 use Rattle.path_text.proofs.Under.{is_under_by, not_front}

@@ -1,13 +1,9 @@
 -- A path and a name make a path.
-use Rattle.std.proofs.Common.{◌≡◌, ◌≢◌, ℕ, ◌+◌, ◌<◌, ◌≤◌, Bool, true, false, not, ◌&&◌, ◌||◌, List, [], ◌∷◌, ◌++◌, length, drop, refl, ap, ◌∙◌, arith}
-use Rattle.std.proofs.Common.{Option, Some, None, cond, eqb, length-append}
-use Rattle.std.specs.List.{slice_split, onto_first, list_any}
+use Rattle.path_text.proofs.Prelude.{◌≡◌, ◌≢◌, ℕ, ◌+◌, ◌<◌, ◌≤◌, Bool, true, false, not, ◌&&◌, ◌||◌, List, [], ◌∷◌, ◌++◌, length, drop, refl, ap, ◌∙◌, arith}
+use Rattle.path_text.proofs.Prelude.{Option, Some, None, cond, eqb, length-append, slice_split, onto_first, list_any, length-slice_split, nat_tests, PathError}
+use Rattle.path_text.proofs.Prelude.{is_slash, name_fault, first_fault, refusal, is_name, joined}
 use Rattle.std.specs.Option.{is_none}
 use Rattle.std.specs.Bool.{IsTrue}
-use Rattle.std.proofs.lemmas.List.Splits.{length-slice_split}
-use Rattle.std.proofs.lemmas.Bool.Decides.{nat_tests}
-use Rattle.path_text.specs.declared.errors.PathError.{PathError}
-use Rattle.path_text.specs.Path.{is_slash, name_fault, first_fault, refusal, is_name, joined}
 
 pub some_part : (xs : List ℕ) → 0 < length (slice_split is_slash xs)
 some_part xs = omega (arith, length-slice_split is_slash xs)

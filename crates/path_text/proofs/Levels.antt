@@ -1,14 +1,7 @@
 -- What is under a path has more names.
-use Rattle.std.proofs.Common.{◌≡◌, ⊎_elim, ℕ, ◌<◌, ◌≤◌, false, cond, List, [], ◌∷◌, ◌++◌, length, ap, ◌∙◌, sym, subst, arith, None}
-use Rattle.std.proofs.Common.{append_assoc}
-use Rattle.std.proofs.lemmas.Bool.{false≢true}
-use Rattle.std.proofs.lemmas.List.Splits.{length-slice_split}
-use Rattle.std.proofs.lemmas.List.Sums.{sum_by-append, sum_by-cons}
-use Rattle.std.specs.Prelude.{nat_eq, IsTrue}
-use Rattle.std.specs.List.{slice_split}
-use Rattle.std.specs.Cmp.Lexicographic.{pointwise, bytes_decides}
-use Rattle.path_text.specs.Path.{is_slash, level_of, parent_of, refusal}
-use Rattle.path_text.specs.Order.{front, is_under, is_within}
+use Rattle.path_text.proofs.Prelude.{◌≡◌, ⊎_elim, ℕ, ◌<◌, ◌≤◌, false, cond, List, [], ◌∷◌, ◌++◌, length, ap, ◌∙◌, sym, subst, arith, None, append_assoc}
+use Rattle.path_text.proofs.Prelude.{false≢true, length-slice_split, sum_by-append, sum_by-cons, nat_eq, IsTrue, slice_split, pointwise, bytes_decides}
+use Rattle.path_text.proofs.Prelude.{is_slash, level_of, parent_of, refusal, front, is_under, is_within}
 use Rattle.path_text.proofs.Parents.{parent_under, parent_valid}
 use Rattle.path_text.proofs.Parts.{front_long, level_is}
 use Rattle.path_text.proofs.Under.{names_under}

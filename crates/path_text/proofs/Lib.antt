@@ -1,3 +1,4 @@
+mod Prelude
 pub mod Compared
 pub mod Split
 pub mod Joined

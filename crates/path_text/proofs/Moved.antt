@@ -1,12 +1,6 @@
 -- Paths below a top and on it.
-use Rattle.std.proofs.Common.{◌≡◌, ℕ, ◌<◌, List, [], ◌∷◌, ◌++◌, length, drop, refl, ap, ◌∙◌, sym, subst, arith, None, ⊎_elim}
-use Rattle.std.specs.Prelude.{IsTrue}
-use Rattle.std.specs.Ordering.{ordering_reverse}
-use Rattle.std.specs.declared.cmp.Ordering.TheVariants.{Less, Equal}
-use Rattle.path_text.specs.Path.{refusal}
-use Rattle.path_text.specs.Order.{path_cmp, front, is_within}
-use Rattle.path_text.specs.Graft.{below_of, grafted, BelowUndoesGraft, BelowKeepsOrder}
-use Rattle.path_text.specs.Total.{path_cmp_total}
+use Rattle.path_text.proofs.Prelude.{◌≡◌, ℕ, ◌<◌, List, [], ◌∷◌, ◌++◌, length, drop, refl, ap, ◌∙◌, sym, subst, arith, None, ⊎_elim, IsTrue, ordering_reverse}
+use Rattle.path_text.proofs.Prelude.{Less, Equal, refusal, path_cmp, front, is_within, below_of, grafted, BelowUndoesGraft, BelowKeepsOrder, path_cmp_total}
 use Rattle.path_text.proofs.Preorder.{self_equal, front-joined}
 use Rattle.path_text.proofs.Preordered.{under_after}
 use Rattle.path_text.proofs.Words.{behind}

@@ -1,16 +1,9 @@
 -- A text around its last slash, and the parent of a path.
-use Rattle.std.proofs.Common.{◌≡◌, ℕ, ◌+◌, ◌-◌, ◌<◌, ◌≤◌, zero, suc, Bool, true, false, not, cond, eqb, ◌||◌, None, List, [], ◌∷◌, ◌++◌}
-use Rattle.std.proofs.Common.{length, take, drop, get_or, refl, ap, sym, ◌∙◌, arith, append_assoc, length-append}
-use Rattle.std.specs.List.{list_any, before_last, after_last, suffix_len, slice_split}
-use Rattle.std.proofs.lemmas.Bool.{false≢true, or_parts}
-use Rattle.std.proofs.lemmas.Bool.Decides.{nat_tests}
-use Rattle.std.proofs.lemmas.List.{take_at, drop_at, get_or-append_right}
-use Rattle.std.proofs.lemmas.List.Sums.{suffix_len_is}
-use Rattle.std.proofs.Math.Seq.{get_or-append_seam}
-use Rattle.std.specs.Prelude.{nat_eq, IsTrue}
-use Rattle.std.specs.Cmp.Lexicographic.{pointwise}
-use Rattle.path_text.specs.Path.{is_slash, refusal, first_fault, joined, is_name, base_of, parent_of}
-use Rattle.path_text.specs.Order.{front, is_under, ParentIsOver}
+use Rattle.path_text.proofs.Prelude.{◌≡◌, ℕ, ◌+◌, ◌-◌, ◌<◌, ◌≤◌, zero, suc, Bool, true, false, not, cond, eqb, ◌||◌, None, List, [], ◌∷◌, ◌++◌, length, take}
+use Rattle.path_text.proofs.Prelude.{drop, get_or, refl, ap, sym, ◌∙◌, arith, append_assoc, length-append, list_any, before_last, after_last, suffix_len}
+use Rattle.path_text.proofs.Prelude.{slice_split, false≢true, or_parts, nat_tests, take_at, drop_at, get_or-append_right, suffix_len_is, get_or-append_seam}
+use Rattle.path_text.proofs.Prelude.{nat_eq, IsTrue, pointwise, is_slash, refusal, first_fault, joined, is_name, base_of, parent_of, front, is_under}
+use Rattle.path_text.proofs.Prelude.{ParentIsOver}
 use Rattle.path_text.proofs.Joined.{first_slash, names_fine}
 use Rattle.path_text.proofs.Parts.{front_long, base_named, before_made}
 use Rattle.path_text.proofs.Preorder.{front-joined, some_bytes}

@@ -1,27 +1,15 @@
 -- The parts of a path: what stands before its last slash and behind it, how many names it has, what stands behind the front of another.
-use Rattle.std.proofs.Common.{◌≡◌, ◌≢◌, ℕ, ◌+◌, ◌-◌, ◌<◌, ◌≤◌, true, false, not, ◌&&◌, ◌||◌, ◌⊎◌, ⊎_elim, List, [], ◌∷◌, ◌++◌, length, take, drop}
-use Rattle.std.proofs.Common.{get_or, refl, ap, ◌∙◌, sym, subst, arith, Option, Some, None, cond, eqb, suc, append_assoc, length-append, length-drop}
-use Rattle.std.proofs.Common.{take-append-drop, drop_of_length-le, get_or-drop, inl, inr}
-use Rattle.std.specs.Prelude.{slice_index, nat_eq, nat_lt, ◌==◌, MatchOption, IfSome, IfNone, OnSome, is_none}
-use Rattle.std.specs.List.{slice_split, list_any, before_last, after_last, suffix_len, starts_with, count_by}
+use Rattle.path_text.proofs.Prelude.{◌≡◌, ◌≢◌, ℕ, ◌+◌, ◌-◌, ◌<◌, ◌≤◌, true, false, not, ◌&&◌, ◌||◌, ◌⊎◌, ⊎_elim, List, [], ◌∷◌, ◌++◌, length, take, drop}
+use Rattle.path_text.proofs.Prelude.{get_or, refl, ap, ◌∙◌, sym, subst, arith, Option, Some, None, cond, eqb, suc, append_assoc, length-append, length-drop}
+use Rattle.path_text.proofs.Prelude.{drop_of_length-le, get_or-drop, inl, inr, slice_index, nat_eq, nat_lt, ◌==◌, MatchOption, OnSome, is_none, slice_split}
+use Rattle.path_text.proofs.Prelude.{list_any, before_last, after_last, suffix_len, starts_with, count_by, RFindsChar, SplitsAroundMatch, FindsTextPrefix}
+use Rattle.path_text.proofs.Prelude.{StripsPrefix, Bor, cases_Bool, false≢true, nat_tests, Decides-eqb, suffix_len_is, sum_by-cons, append_cancel_left}
+use Rattle.path_text.proofs.Prelude.{drop-append_seam, NoCharPasses, IsUtf8, lead_after_ascii, length-slice_split, starts_is, NoCharPasses-char, drop_at_char}
+use Rattle.path_text.proofs.Prelude.{first_so, second_so, pointwise, bytes_decides, is_slash, first_fault, refusal, level_of, name_fault, joined, is_name}
+use Rattle.path_text.proofs.Prelude.{base_of, front, is_under, is_within, below_of, grafted, GraftUndoesBelow}
+use Rattle.std.proofs.Common.{take-append-drop}
+use Rattle.std.specs.Prelude.{IfSome, IfNone}
 use Rattle.std.specs.Bool.{IsTrue}
-use Rattle.std.specs.Str.Pattern.{RFindsChar, SplitsAroundMatch, FindsTextPrefix, StripsPrefix}
-use denote.Ref.{Bor}
-use Rattle.std.proofs.lemmas.Bool.{cases_Bool, false≢true}
-use Rattle.std.proofs.lemmas.Bool.Decides.{nat_tests, Decides-eqb}
-use Rattle.std.proofs.lemmas.List.Sums.{suffix_len_is, sum_by-cons}
-use Rattle.std.proofs.lemmas.List.{append_cancel_left}
-use Rattle.std.proofs.Math.Seq.{drop-append_seam}
-use Rattle.std.specs.Str.{NoCharPasses, IsUtf8}
-use Rattle.std.proofs.lemmas.Str.{lead_after_ascii}
-use Rattle.std.proofs.lemmas.List.Splits.{length-slice_split}
-use Rattle.std.proofs.lemmas.Slice.Eq.{starts_is}
-use Rattle.std.proofs.lemmas.Str.Pattern.{NoCharPasses-char, drop_at_char}
-use Rattle.std.specs.Cmp.{first_so, second_so}
-use Rattle.std.specs.Cmp.Lexicographic.{pointwise, bytes_decides}
-use Rattle.path_text.specs.Path.{is_slash, first_fault, refusal, level_of, name_fault, joined, is_name, base_of}
-use Rattle.path_text.specs.Order.{front, is_under, is_within}
-use Rattle.path_text.specs.Graft.{below_of, grafted, GraftUndoesBelow}
 use Rattle.path_text.proofs.Preorder.{front-joined}
 use Rattle.path_text.proofs.Joined.{split_more, split_name, behind, first_slash, names_fine}
 

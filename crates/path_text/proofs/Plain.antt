@@ -1,13 +1,8 @@
 -- The bytes of a path that stand for themselves.
-use Rattle.std.proofs.Common.{◌≡◌, ℕ, ◌+◌, ◌<◌, ◌≤◌, true, false, not, List, [], ◌∷◌, ◌++◌, length, take, drop, get_or, refl, ap, ◌∙◌, sym}
-use Rattle.std.proofs.Common.{arith, Option, Some, None, cond, zero, suc, append-nil, drop-cons, add-one}
-use Rattle.std.specs.Prelude.{slice_index}
-use Rattle.std.specs.List.{position, position_or_len}
-use Rattle.std.specs.Option.{IfSome, IfNone}
-use Rattle.std.proofs.Math.Seq.{take-length, drop-length}
-use Rattle.std.proofs.lemmas.List.Sums.{passes_at_first}
+use Rattle.path_text.proofs.Prelude.{◌≡◌, ℕ, ◌+◌, ◌<◌, ◌≤◌, true, false, not, List, [], ◌∷◌, ◌++◌, length, take, drop, get_or, refl, ap, ◌∙◌, sym, arith}
+use Rattle.path_text.proofs.Prelude.{Option, Some, None, cond, zero, suc, append-nil, drop-cons, add-one, slice_index, position, position_or_len, IfSome}
+use Rattle.path_text.proofs.Prelude.{IfNone, take-length, drop-length, passes_at_first, is_escaped, escaped, escape}
 use Rattle.path_text.proofs.Split.{place, no_place}
-use Rattle.path_text.specs.Escape.{is_escaped, escaped, escape}
 use Rattle.path_text.proofs.Readable.{as_itself}
 
 -- the bytes up to the first that does not are written as they are

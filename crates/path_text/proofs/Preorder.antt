@@ -1,17 +1,8 @@
 -- Path order is preorder: a path comes before its children, they come in the order of their names, and all that is under a path comes before what follows it.
-use Rattle.std.proofs.Common.{◌≡◌, ℕ, ◌<◌, Bool, true, false, not, ◌&&◌, ◌||◌, List, [], ◌∷◌, ◌++◌, length, refl, ap, ◌∙◌, sym, subst, arith, cond}
-use Rattle.std.proofs.Common.{append_assoc, append-nil, length-append}
-use Rattle.std.proofs.lemmas.Bool.{false≢true, or_parts}
-use Rattle.std.specs.Prelude.{◌==◌, nat_lt}
-use Rattle.std.specs.List.{list_any}
-use Rattle.std.specs.Ordering.{nat_cmp, ordering_then}
-use Rattle.std.specs.declared.cmp.Ordering.{Ordering}
-use Rattle.std.specs.declared.cmp.Ordering.TheVariants.{Less}
-use Rattle.std.specs.Cmp.Lexicographic.{slice_cmp}
-use Rattle.std.proofs.lemmas.Bool.Decides.{nat_tests}
-use Rattle.path_text.specs.Order.{path_cmp, byte_rank, front}
+use Rattle.path_text.proofs.Prelude.{◌≡◌, ℕ, ◌<◌, Bool, true, false, not, ◌&&◌, ◌||◌, List, [], ◌∷◌, ◌++◌, length, refl, ap, ◌∙◌, sym, subst, arith, cond}
+use Rattle.path_text.proofs.Prelude.{append_assoc, append-nil, length-append, false≢true, or_parts, ◌==◌, nat_lt, list_any, nat_cmp, ordering_then, Ordering}
+use Rattle.path_text.proofs.Prelude.{Less, slice_cmp, nat_tests, path_cmp, byte_rank, front, is_slash, joined, is_name}
 use Rattle.std.specs.Bool.{IsTrue}
-use Rattle.path_text.specs.Path.{is_slash, joined, is_name}
 
 -- all that begins with `front` comes before y: they first differ at a byte that is lower in `front`
 abbrev pub before_all : List ℕ → List ℕ → Bool

@@ -1,19 +1,9 @@
 -- The laws of path order, from what precedes what.
-use Rattle.std.proofs.Common.{◌≡◌, ℕ, ◌<◌, Bool, true, false, cond, ◌||◌, List, [], ◌∷◌, ◌++◌, length, take, drop, refl, ap, ◌∙◌, sym, arith}
-use Rattle.std.proofs.Common.{append_assoc, length-drop}
-use Rattle.std.specs.Prelude.{◌==◌, nat_lt, nat_eq}
+use Rattle.path_text.proofs.Prelude.{◌≡◌, ℕ, ◌<◌, Bool, true, false, cond, ◌||◌, List, [], ◌∷◌, ◌++◌, length, take, drop, refl, ap, ◌∙◌, sym, arith}
+use Rattle.path_text.proofs.Prelude.{append_assoc, length-drop, ◌==◌, nat_lt, nat_eq, starts_with, nat_cmp, ordering_then, Ordering, Less, first_so, second_so}
+use Rattle.path_text.proofs.Prelude.{pointwise, bytes_decides, nat_tests, false≢true, take-append-drop, joined, path_cmp, byte_rank, front, is_under, is_within}
+use Rattle.path_text.proofs.Prelude.{IsPreorder, slash_as_zero, has_zero, ReadsSlashAsZero}
 use Rattle.std.specs.Bool.{IsTrue}
-use Rattle.std.specs.List.{starts_with}
-use Rattle.std.specs.Ordering.{nat_cmp, ordering_then}
-use Rattle.std.specs.declared.cmp.Ordering.{Ordering}
-use Rattle.std.specs.declared.cmp.Ordering.TheVariants.{Less}
-use Rattle.std.specs.Cmp.{first_so, second_so}
-use Rattle.std.specs.Cmp.Lexicographic.{pointwise, bytes_decides}
-use Rattle.std.proofs.lemmas.Bool.Decides.{nat_tests}
-use Rattle.std.proofs.lemmas.Bool.{false≢true}
-use Rattle.std.proofs.lemmas.List.{take-append-drop}
-use Rattle.path_text.specs.Path.{joined}
-use Rattle.path_text.specs.Order.{path_cmp, byte_rank, front, is_under, is_within, IsPreorder, slash_as_zero, has_zero, ReadsSlashAsZero}
 use Rattle.path_text.proofs.Preorder.{precedes, precedes-Less, less_all, prefix_less, sibling_precedes, some_bytes, no_slash}
 
 -- what follows the front of a path

@@ -1,22 +1,11 @@
 -- Printable text: where it may be read, and that reading undoes writing.
-use Rattle.std.proofs.Common.{◌≡◌, ◌≢◌, ℕ, ◌+◌, ◌*◌, ◌/◌, ◌%◌, ◌<◌, ◌≤◌, Bool, true, false, not, ◌&&◌, List, [], ◌∷◌, ◌++◌, length, drop, get_or}
-use Rattle.std.proofs.Common.{refl, ap, ◌∙◌, sym, subst, arith, cond, zero, suc, length-append, append_assoc, drop-cons, add-one, get_or-drop, Ok}
-use Rattle.std.proofs.Common.{Err, None, Some, Option}
-use Rattle.std.specs.Prelude.{nat_eq, nat_lt, ◌==◌, slice_index}
+use Rattle.path_text.proofs.Prelude.{◌≡◌, ◌≢◌, ℕ, ◌+◌, ◌*◌, ◌/◌, ◌%◌, ◌<◌, ◌≤◌, Bool, true, false, not, ◌&&◌, List, [], ◌∷◌, ◌++◌, length, drop, get_or, refl}
+use Rattle.path_text.proofs.Prelude.{ap, ◌∙◌, sym, subst, arith, cond, zero, suc, length-append, append_assoc, drop-cons, add-one, get_or-drop, Ok, Err, None}
+use Rattle.path_text.proofs.Prelude.{Some, Option, nat_eq, nat_lt, ◌==◌, slice_index, starts_with, first_so, second_so, false≢true, nat_tests, Decides-eqb}
+use Rattle.path_text.proofs.Prelude.{starts_is, IsUtf8-drop, IsCharBoundary-after_ascii, drop-append-add, get_or-append_seam, IsUtf8, IsCharBoundary, PathError}
+use Rattle.path_text.proofs.Prelude.{BadEscape, refusal, hex_digit, is_escaped, escaped, escape, hex_value, told_byte, begins_escape, good_len, unescaped}
+use Rattle.path_text.proofs.Prelude.{path_of, reading, ReadingUndoesWriting, UnescapingUndoesEscaping}
 use Rattle.std.specs.Bool.{IsTrue}
-use Rattle.std.specs.List.{starts_with}
-use Rattle.std.specs.Cmp.{first_so, second_so}
-use Rattle.std.proofs.lemmas.Bool.{false≢true}
-use Rattle.std.proofs.lemmas.Bool.Decides.{nat_tests, Decides-eqb}
-use Rattle.std.proofs.lemmas.Slice.Eq.{starts_is}
-use Rattle.std.proofs.lemmas.Str.{IsUtf8-drop, IsCharBoundary-after_ascii}
-use Rattle.std.proofs.Math.Seq.{drop-append-add, get_or-append_seam}
-use Rattle.std.specs.Str.{IsUtf8, IsCharBoundary}
-use Rattle.path_text.specs.declared.errors.PathError.{PathError}
-use Rattle.path_text.specs.declared.errors.EscapeError.TheVariants.{BadEscape}
-use Rattle.path_text.specs.Path.{refusal}
-use Rattle.path_text.specs.Escape.{hex_digit, is_escaped, escaped, escape, hex_value, told_byte, begins_escape, good_len, unescaped, path_of, reading}
-use Rattle.path_text.specs.Escape.{ReadingUndoesWriting, UnescapingUndoesEscaping}
 
 pub as_escape : (b : ℕ) → is_escaped b ≡ true → escaped b ≡ 92 ∷ 120 ∷ hex_digit (b / 16) ∷ hex_digit (b % 16) ∷ []
 as_escape b e = ap (λ t. cond t (92 ∷ 120 ∷ hex_digit (b / 16) ∷ hex_digit (b % 16) ∷ []) (b ∷ [])) e

@@ -1,10 +1,7 @@
 -- A text is never refused for want of memory.
-use Rattle.std.proofs.Common.{◌≡◌, ◌≢◌, ℕ, ◌+◌, Bool, true, false, not, ◌&&◌, List, [], ◌∷◌, length, refl, ◌∙◌, Option, Some, None, cond}
-use Rattle.std.specs.Prelude.{◌==◌, nat_lt, nat_le, is_none}
-use Rattle.std.specs.List.{slice_split, list_any, list_all}
-use Rattle.path_text.specs.declared.errors.PathError.{PathError}
-use Rattle.path_text.specs.declared.errors.PathError.TheVariants.{NotAbsolute, EmptyName, DotName, Nul, TooLong, OutOfMemory}
-use Rattle.path_text.specs.Path.{is_slash, name_fault, first_fault, refusal}
+use Rattle.path_text.proofs.Prelude.{◌≡◌, ◌≢◌, ℕ, ◌+◌, Bool, true, false, not, ◌&&◌, List, [], ◌∷◌, length, refl, ◌∙◌, Option, Some, None, cond, ◌==◌, nat_lt}
+use Rattle.path_text.proofs.Prelude.{nat_le, is_none, slice_split, list_any, list_all, PathError, NotAbsolute, EmptyName, DotName, Nul, TooLong, OutOfMemory}
+use Rattle.path_text.proofs.Prelude.{is_slash, name_fault, first_fault, refusal}
 
 of_name : (a b c : Bool) → cond a (Some EmptyName) (cond b (Some DotName) (cond c (Some Nul) None)) ≢ Some OutOfMemory
 of_name true b c e = cc

@@ -1,9 +1,6 @@
 -- What two texts begin with.
-use Rattle.std.proofs.Common.{◌≡◌, ℕ, zero, suc, ◌+◌, ◌≤◌, true, cond, List, [], ◌∷◌, length, take, drop, min, refl, ap, ◌∙◌, arith}
-use Rattle.std.specs.Prelude.{nat_eq}
-use Rattle.std.specs.List.{common_prefix_len}
-use Rattle.std.proofs.lemmas.List.Sums.{common_prefix_len-le}
-use Rattle.std.proofs.lemmas.Bool.Decides.{nat_tests}
+use Rattle.path_text.proofs.Prelude.{◌≡◌, ℕ, zero, suc, ◌+◌, ◌≤◌, true, cond, List, [], ◌∷◌, length, take, drop, min, refl, ap, ◌∙◌, arith, nat_eq}
+use Rattle.path_text.proofs.Prelude.{common_prefix_len, common_prefix_len-le, nat_tests}
 
 -- where the first so many bytes are the same, both begin with these and with what the bytes behind them begin with
 pub prefix_past : (a b : List ℕ) (n : ℕ) → n ≤ length a → n ≤ length b → take n a ≡ take n b →

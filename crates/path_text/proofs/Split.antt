@@ -1,10 +1,7 @@
 -- The names of a path, one after the other.
-use Rattle.std.proofs.Common.{◌≡◌, ℕ, ◌+◌, ◌<◌, true, false, List, [], ◌∷◌, length, take, drop, refl, ap, ◌∙◌, sym, arith, Option, Some, None, cond, ltb, ◌≤◌}
-use Rattle.std.specs.List.{slice_split, onto_first, position, position_or_len}
-use Rattle.std.specs.Option.{IfSome, IfNone}
-use Rattle.std.proofs.lemmas.List.Splits.{slice_split_first, slice_split-cons_no}
-use Rattle.std.proofs.lemmas.Bool.Decides.{nat_tests}
-use Rattle.path_text.specs.Path.{is_slash}
+use Rattle.path_text.proofs.Prelude.{◌≡◌, ℕ, ◌+◌, ◌<◌, true, false, List, [], ◌∷◌, length, take, drop, refl, ap, ◌∙◌, sym, arith, Option, Some, None, cond, ltb}
+use Rattle.path_text.proofs.Prelude.{◌≤◌, slice_split, onto_first, position, position_or_len, IfSome, IfNone, slice_split_first, slice_split-cons_no, nat_tests}
+use Rattle.path_text.proofs.Prelude.{is_slash}
 
 pub place : (q n k : ℕ) → cond (ltb q n) (Some q) None ≡ Some k → (q < n) × (q ≡ k)
 place q n k e = grind (arith, nat_tests)

@@ -1,15 +1,9 @@
 -- What is read off printable text is so of the bytes that it stands for.
-use Rattle.std.proofs.Common.{◌≡◌, ℕ, ◌+◌, ◌*◌, ◌/◌, ◌%◌, ◌<◌, ◌≤◌, Bool, true, false, ◌&&◌, ◌||◌, List, [], ◌∷◌, ◌++◌, map, length, drop, refl, ap}
-use Rattle.std.proofs.Common.{◌∙◌, sym, subst, arith, cond, Some, None, get_or, add-one, drop-cons}
-use Rattle.std.specs.Prelude.{nat_le, ◌==◌, is_none}
-use Rattle.std.specs.List.{list_any, list_all, count_by, slice_split, onto_first}
-use Rattle.std.proofs.lemmas.List.Sums.{sum_by-cons}
-use Rattle.std.proofs.lemmas.Bool.Decides.{nat_tests}
-use Rattle.path_text.specs.declared.errors.PathError.TheVariants.{EmptyName, DotName, Nul}
-use Rattle.path_text.specs.Path.{is_slash, name_fault, first_fault, refusal}
-use Rattle.path_text.specs.Order.{has_zero}
-use Rattle.path_text.specs.Escape.{hex_digit, is_escaped, escaped, escape, good_len, unescaped}
-use Rattle.path_text.specs.Written.{is_backslash, begins_nul, tells_nul, written_fault, first_written}
+use Rattle.path_text.proofs.Prelude.{◌≡◌, ℕ, ◌+◌, ◌*◌, ◌/◌, ◌%◌, ◌<◌, ◌≤◌, Bool, true, false, ◌&&◌, ◌||◌, List, [], ◌∷◌, ◌++◌, map, length, drop, refl, ap, ◌∙◌}
+use Rattle.path_text.proofs.Prelude.{sym, subst, arith, cond, Some, None, get_or, add-one, drop-cons, nat_le, ◌==◌, is_none, list_any, list_all, count_by}
+use Rattle.path_text.proofs.Prelude.{slice_split, onto_first, sum_by-cons, nat_tests, EmptyName, DotName, Nul, is_slash, name_fault, first_fault, refusal}
+use Rattle.path_text.proofs.Prelude.{has_zero, hex_digit, is_escaped, escaped, escape, good_len, unescaped, is_backslash, begins_nul, tells_nul, written_fault}
+use Rattle.path_text.proofs.Prelude.{first_written}
 use Rattle.path_text.proofs.Readable.{as_escape, as_itself, low, spelled, good_more}
 use Rattle.path_text.proofs.Joined.{some_part}
 

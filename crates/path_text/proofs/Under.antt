@@ -1,17 +1,8 @@
 -- The paths under a path stand together.
-use Rattle.std.proofs.Common.{◌≡◌, ℕ, ◌<◌, Bool, true, false, ◌&&◌, ◌||◌, List, [], ◌∷◌, ◌++◌, length, drop, refl, ap, ◌∙◌, sym, arith, cond}
-use Rattle.std.proofs.Common.{append_assoc, length-append, append-nil, None}
-use Rattle.std.specs.Prelude.{◌==◌, nat_eq, nat_lt, IsTrue}
-use Rattle.std.specs.List.{starts_with, slice_split}
-use Rattle.std.specs.Cmp.{first_so, second_so}
-use Rattle.std.specs.Ordering.{nat_cmp, ordering_then, ordering_reverse}
-use Rattle.std.specs.declared.cmp.Ordering.{Ordering}
-use Rattle.std.specs.declared.cmp.Ordering.TheVariants.{Less, Greater}
-use Rattle.std.proofs.lemmas.Bool.{false≢true}
-use Rattle.std.proofs.lemmas.Bool.Decides.{nat_tests}
-use Rattle.path_text.specs.Path.{is_slash, first_fault, refusal}
-use Rattle.path_text.specs.Order.{path_cmp, byte_rank, front, is_under, UnderIsContiguous}
-use Rattle.path_text.specs.Total.{path_cmp_total}
+use Rattle.path_text.proofs.Prelude.{◌≡◌, ℕ, ◌<◌, Bool, true, false, ◌&&◌, ◌||◌, List, [], ◌∷◌, ◌++◌, length, drop, refl, ap, ◌∙◌, sym, arith, cond}
+use Rattle.path_text.proofs.Prelude.{append_assoc, length-append, append-nil, None, ◌==◌, nat_eq, nat_lt, IsTrue, starts_with, slice_split, first_so, second_so}
+use Rattle.path_text.proofs.Prelude.{nat_cmp, ordering_then, ordering_reverse, Ordering, Less, Greater, false≢true, nat_tests, is_slash, first_fault, refusal}
+use Rattle.path_text.proofs.Prelude.{path_cmp, byte_rank, front, is_under, UnderIsContiguous, path_cmp_total}
 use Rattle.path_text.proofs.Preorder.{before_all, less_all}
 use Rattle.path_text.proofs.Preordered.{begins, longer}
 use Rattle.path_text.proofs.Parts as parts

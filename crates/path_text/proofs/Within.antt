@@ -1,15 +1,7 @@
 -- Paths within others.
-use Rattle.std.proofs.Common.{◌≡◌, ◌≢◌, ◌⊎◌, inl, inr, ⊎_elim, ℕ, ◌<◌, ◌≤◌, true, false, ◌||◌, List, [], ◌∷◌, length, refl, ap, ◌∙◌, sym, subst}
-use Rattle.std.proofs.Common.{arith, None, length-append}
-use Rattle.std.proofs.lemmas.Bool.{false≢true}
-use Rattle.std.specs.Prelude.{nat_eq, IsTrue}
-use Rattle.std.specs.Cmp.Lexicographic.{pointwise, bytes_decides}
-use Rattle.std.specs.Ordering.{ordering_reverse}
-use Rattle.std.specs.declared.cmp.Ordering.{Ordering}
-use Rattle.std.specs.declared.cmp.Ordering.TheVariants.{Less, Equal, Greater}
-use Rattle.path_text.specs.Path.{refusal}
-use Rattle.path_text.specs.Order.{path_cmp, front, is_under, is_within, TopsAreNested}
-use Rattle.path_text.specs.Total.{path_cmp_total, path_cmp_same}
+use Rattle.path_text.proofs.Prelude.{◌≡◌, ◌≢◌, ◌⊎◌, inl, inr, ⊎_elim, ℕ, ◌<◌, ◌≤◌, true, false, ◌||◌, List, [], ◌∷◌, length, refl, ap, ◌∙◌, sym, subst, arith}
+use Rattle.path_text.proofs.Prelude.{None, length-append, false≢true, nat_eq, IsTrue, pointwise, bytes_decides, ordering_reverse, Ordering, Less, Equal}
+use Rattle.path_text.proofs.Prelude.{Greater, refusal, path_cmp, front, is_under, is_within, TopsAreNested, path_cmp_total, path_cmp_same}
 use Rattle.path_text.proofs.Joined.{first_slash}
 use Rattle.path_text.proofs.Parts.{front_longer}
 use Rattle.path_text.proofs.Preorder.{some_front}

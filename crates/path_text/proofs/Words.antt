@@ -1,10 +1,7 @@
 -- Two texts that begin with the same words.
-use Rattle.std.proofs.Common.{◌≡◌, ℕ, ◌+◌, ◌-◌, ◌<◌, ◌≤◌, List, [], ◌∷◌, ◌++◌, length, take, drop, get_or, refl, ap, ◌∙◌, sym, arith, suc, zero, lit<}
-use Rattle.std.specs.Int.{from_be_bytes, w64}
-use Rattle.std.proofs.lemmas.Nat.{be_bytes_8}
-use Rattle.std.proofs.lemmas.List.{take-append-drop, take_all, length-take-le, length-drop}
-use Rattle.std.proofs.Math.Seq.{take-add}
-use Rattle.path_text.specs.Order.{path_cmp}
+use Rattle.path_text.proofs.Prelude.{◌≡◌, ℕ, ◌+◌, ◌-◌, ◌<◌, ◌≤◌, List, [], ◌∷◌, ◌++◌, length, take, drop, get_or, refl, ap, ◌∙◌, sym, arith, suc, zero, lit<}
+use Rattle.path_text.proofs.Prelude.{from_be_bytes, w64, be_bytes_8, take-append-drop, take_all, length-take-le, take-add, path_cmp}
+use Rattle.std.proofs.lemmas.List.{length-drop}
 use Rattle.path_text.proofs.Preorder.{self_equal}
 
 pub behind : (p x y : List ℕ) → path_cmp (p ++ x) (p ++ y) ≡ path_cmp x y

@@ -1,21 +1,11 @@
 -- The masks of a plain board go with its mailboxes.
-use Rattle.std.proofs.Common.{◌≡◌, ◌≢◌, ℕ, ◌^◌, ◌<◌, ◌≤◌, ◌==◌, refl, sym, subst, ap, ◌∙◌, true, false, eq-eqb, ne_eqb, List, length, replicate}
-use Rattle.std.proofs.Common.{get_or, set, get_or-set_same, get_or-set_other, length-set, bit_or, bit_xor, None}
-use Rattle.std.proofs.lemmas.List.{length-replicate}
-use Rattle.std.proofs.lemmas.Nat.Bits.{bit_at-zero}
-use mathlib.Core.Logic.{dite}
-use native.Mathlib.Decide.{ℕ_discrete}
-use Rattle.post_board.specs.Words.{has_bit}
-use Rattle.post_board.specs.Told.{Place}
-use Rattle.post_board.specs.Calls.{NoneAsks}
-use Rattle.ring_core.specs.declared.states.Token.{Token}
-use Rattle.post_board.specs.Plain.{plain, wants, no_rank, fresh_rank, told_of, shown_by, Fits, Noted}
-use Rattle.post_board.specs.declared.plain_seats.PlainSeat.{PlainSeat}
+use Rattle.post_board.proofs.Prelude.{◌≡◌, ◌≢◌, ℕ, ◌^◌, ◌<◌, ◌≤◌, ◌==◌, refl, sym, subst, ap, ◌∙◌, true, false, eq-eqb, ne_eqb, List, length, replicate, get_or}
+use Rattle.post_board.proofs.Prelude.{set, get_or-set_same, get_or-set_other, length-set, bit_or, bit_xor, None, length-replicate, bit_at-zero, dite}
+use Rattle.post_board.proofs.Prelude.{ℕ_discrete, has_bit, Place, NoneAsks, Token, plain, wants, no_rank, fresh_rank, told_of, shown_by, Fits, Noted, PlainSeat}
+use Rattle.post_board.proofs.Prelude.{Rest, Wants, PlainRank}
 use Rattle.post_board.proofs.PlainFrames.{told_place}
 use Rattle.post_board.proofs.PlainDeeds.{own_rest}
 use Rattle.post_board.proofs.PlainServing.{serving_mail}
-use Rattle.post_board.specs.declared.plain_ranks.PlainMailbox.TheVariants.{Rest, Wants}
-use Rattle.post_board.specs.declared.plain_ranks.PlainRank.{PlainRank}
 use Rattle.post_board.proofs.PlainStart.{read_of_copies}
 use Rattle.post_board.proofs.BitLemmas.{bit_set, bit_else, bit_gone, bit_stays}
 

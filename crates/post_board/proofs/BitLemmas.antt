@@ -1,9 +1,6 @@
 -- A bit of a word that is set or turned.
-use Rattle.std.proofs.Common.{◌≡◌, ◌≢◌, ℕ, ◌+◌, ◌^◌, ◌%◌, ◌<◌, ◌==◌, max, ap, arith, true, false, bit_or, bit_xor, eq-eqb, ne_eqb}
-use Rattle.std.specs.Int.{bit_at}
-use Rattle.std.proofs.lemmas.Nat.Bits.{bit_at_or, bit_at_xor, bit_at-pow_same, bit_at-pow_other, bit_at-lt}
-use Rattle.std.proofs.lemmas.Bool.{eqb-true}
-use Rattle.post_board.specs.Words.{has_bit}
+use Rattle.post_board.proofs.Prelude.{◌≡◌, ◌≢◌, ℕ, ◌+◌, ◌^◌, ◌%◌, ◌<◌, ◌==◌, max, ap, arith, true, false, bit_or, bit_xor, eq-eqb, ne_eqb, bit_at, bit_at_or}
+use Rattle.post_board.proofs.Prelude.{bit_at_xor, bit_at-pow_same, bit_at-pow_other, bit_at-lt, eqb-true, has_bit}
 
 pub bit_set : (w r : ℕ) → has_bit (bit_or w (2 ^ r)) r ≡ true
 bit_set w r = let a : bit_at (bit_or w (2 ^ r)) r ≡ max (bit_at w r) (bit_at (2 ^ r) r) = bit_at_or w (2 ^ r) r in

@@ -1,34 +1,15 @@
 -- What a call leaves, from what its steps told.
-use Rattle.std.proofs.Common.{◌≡◌, ℕ, ◌+◌, ◌<◌, ◌≢◌, ◌⊎◌, inl, inr, ⊎_elim, arith, ◌*◌, ◌/◌, ◌%◌, ◌==◌, Bool, true, false, cond, ne_eqb, eq-eqb, suc}
-use Rattle.std.proofs.Common.{refl, sym, subst, ap, ◌∙◌, List, [], ◌∷◌, ◌++◌, append_assoc, length, length-set, map, get_or, set, get_or-set_same}
-use Rattle.std.proofs.Common.{get_or-set_other, sum_by, zero, deque_capacity, ◌≤◌, Option, Some, None}
-use Rattle.ring_core.specs.declared.states.Colour.{Colour}
-use Rattle.ring_core.specs.declared.states.Token.{Token}
-use Rattle.ring_core.specs.declared.states.Token.TheVariants.{At}
-use Rattle.post_board.specs.Shown.{token_of, victim_of}
-use Rattle.post_board.specs.Readings.{Adds, One, Two, Three, Step, TokenSteps, others_below, NoneAsked}
-use Rattle.post_board.specs.Words.{Sign, resting, asking, serving, full, fetching, emptied, sign_by, sign, word_of, token_read, word_of_token}
+use Rattle.post_board.proofs.Prelude.{◌≡◌, ℕ, ◌+◌, ◌<◌, ◌≢◌, ◌⊎◌, inl, inr, ⊎_elim, arith, ◌*◌, ◌/◌, ◌%◌, ◌==◌, Bool, true, false, cond, ne_eqb, eq-eqb, suc}
+use Rattle.post_board.proofs.Prelude.{refl, sym, subst, ap, ◌∙◌, List, [], ◌∷◌, ◌++◌, append_assoc, length, length-set, map, get_or, set, get_or-set_same}
+use Rattle.post_board.proofs.Prelude.{get_or-set_other, sum_by, zero, deque_capacity, ◌≤◌, Option, Some, None, Colour, Token, At, token_of, victim_of, Adds}
+use Rattle.post_board.proofs.Prelude.{One, Two, Three, Step, TokenSteps, others_below, NoneAsked, Sign, resting, asking, serving, full, fetching, emptied}
+use Rattle.post_board.proofs.Prelude.{sign_by, word_of, token_read, word_of_token, Reading, shown_known, Known, OwnMailbox, Open, Filled, Board, BoardSeat}
+use Rattle.post_board.proofs.Prelude.{asked_of, OpenFits, OwnFits, SeatState, knows, knowing, noted, learn, own_by, one_if, Fronted, View, rest, sum_by-set}
+use Rattle.post_board.proofs.Prelude.{sum_by-cons, Contains, map-append, All-nil, All-cons, All-append, dite, ℕ_discrete}
+use Rattle.post_board.specs.BoardSeats.{IsSeat}
+use Rattle.post_board.specs.Words.{sign}
 use Rattle.post_board.proofs.WordLemmas.{sign_of_word, token_of_word}
-use Rattle.post_board.specs.declared.answers.Reading.{Reading}
-use Rattle.post_board.specs.BoardSeats.{shown_known}
-use Rattle.post_board.specs.declared.board_views.Known.{Known}
-use Rattle.post_board.specs.declared.board_views.OwnMailbox.{OwnMailbox}
-use Rattle.post_board.specs.declared.board_views.OwnMailbox.TheVariants.{Open, Filled}
-use Rattle.post_board.specs.declared.boards.Board.{Board}
-use Rattle.post_board.specs.declared.boards.BoardSeat.{BoardSeat}
-use Rattle.post_board.specs.BoardRule.{asked_of, OpenFits, OwnFits}
-use Rattle.post_board.specs.BoardSteps.{SeatState, knows, knowing, noted, learn}
-use Rattle.post_board.specs.BoardSeats.{IsSeat, own_by, one_if}
-use Rattle.post_board.specs.BoardWork.{Fronted}
-use Rattle.post_board.specs.declared.board_views.View.{View}
-use Rattle.atomic_table.specs.Table.{rest}
-use Rattle.std.proofs.lemmas.List.Sums.{sum_by-set, sum_by-cons}
-use Rattle.std.specs.List.{Contains}
-use Rattle.std.proofs.lemmas.List.{map-append}
-use Rattle.std.proofs.lemmas.List.Elements.{All-nil, All-cons, All-append}
 use Rattle.post_board.proofs.MailboxLemmas.{name, one_word}
-use mathlib.Core.Logic.{dite}
-use native.Mathlib.Decide.{ℕ_discrete}
 
 abbrev pub reading : ℕ → ℕ → ℕ → Reading
 reading word found left = record { word = word; found = found; left = left }

@@ -1,16 +1,10 @@
 -- A legal deed happens in the picture that is told, and what is told stays sound.
-use Rattle.std.proofs.Common.{◌≡◌, ◌==◌, ℕ, ◌-◌, ◌<◌, ◌≢◌, refl, sym, subst, ap, ◌∙◌, arith, true, false, cond, nat_lt, length, set, get_or-set_same}
-use Rattle.std.proofs.Common.{get_or-set_other, length-set}
-use mathlib.Core.Logic.{dite}
-use native.Mathlib.Decide.{ℕ_discrete}
-use Rattle.ring_core.specs.declared.states.Colour.{Colour}
-use Rattle.ring_core.specs.declared.states.Colour.TheVariants.{White, Black}
-use Rattle.ring_core.specs.declared.states.Token.{Token}
-use Rattle.ring_core.specs.declared.states.Token.TheVariants.{At, Over}
-use Rattle.ring_core.specs.Picture.{filled_by, RankPicture, put, Becomes, Happens, PictureInvariant}
-use Rattle.ring_core.proofs.PictureLemmas.{put_here, put_elsewhere, put_all, event_keeps_invariant}
-use Rattle.post_board.specs.Told.{vacant, full, Place, Told, no_place, place, put_place, mailbox, pictured, picture, Sane, Sound}
-use Rattle.post_board.specs.Deeds.{Deed, ask, give, refuse, take, take_none, pass, restart, conclude, see_over, event_of, told_after, Legal}
+use Rattle.post_board.proofs.Prelude.{◌≡◌, ◌==◌, ℕ, ◌-◌, ◌<◌, ◌≢◌, refl, sym, subst, ap, ◌∙◌, arith, true, false, cond, nat_lt, length, set, get_or-set_same}
+use Rattle.post_board.proofs.Prelude.{get_or-set_other, length-set, dite, ℕ_discrete, Colour, White, Black, Token, At, Over, filled_by, RankPicture, put}
+use Rattle.post_board.proofs.Prelude.{Becomes, Happens, PictureInvariant, put_here, put_elsewhere, put_all, event_keeps_invariant, vacant, Place, Told}
+use Rattle.post_board.proofs.Prelude.{no_place, place, put_place, mailbox, pictured, picture, Sane, Sound, Deed, ask, give, refuse, take, take_none, pass}
+use Rattle.post_board.proofs.Prelude.{restart, conclude, see_over, event_of, told_after, Legal}
+use Rattle.post_board.specs.Told.{full}
 
 pub restood : (t : Told) (r : ℕ) (x : Place) → r < length t.places → (k : ℕ) → place (put_place t r x) k ≡ put (place t) r x k
 restood t r x h k = dite (ℕ_discrete k r)

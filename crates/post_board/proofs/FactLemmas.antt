@@ -1,13 +1,8 @@
 -- A step at the seat of id, the mailbox of r and the slot of r keeps the facts of mailboxes.
-use Rattle.std.proofs.Common.{◌≡◌, ℕ, ◌<◌, ◌≢◌, refl, sym, subst, ap, ◌∙◌, true, false, [], ◌++◌, length, get_or}
+use Rattle.post_board.proofs.Prelude.{◌≡◌, ℕ, ◌<◌, ◌≢◌, refl, sym, subst, ap, ◌∙◌, true, false, [], ◌++◌, length, get_or, dite, ℕ_discrete, put, put_here}
+use Rattle.post_board.proofs.Prelude.{put_elsewhere, put_all, put_same, Sign, serving, Parcel, MailboxFacts, serves, given, taken, OwnFits, SlotFits, Away}
+use Rattle.post_board.proofs.Prelude.{on_way, Known}
 use mathlib.Core.Option as Core
-use mathlib.Core.Logic.{dite}
-use native.Mathlib.Decide.{ℕ_discrete}
-use Rattle.ring_core.specs.Picture.{put}
-use Rattle.ring_core.proofs.PictureLemmas.{put_here, put_elsewhere, put_all, put_same}
-use Rattle.post_board.specs.Words.{Sign, serving}
-use Rattle.post_board.specs.BoardRule.{Parcel, MailboxFacts, serves, given, taken, OwnFits, SlotFits, Away, on_way}
-use Rattle.post_board.specs.declared.board_views.Known.{Known}
 use Rattle.post_board.proofs.Puts.{put_self}
 
 -- what is owed for such a step

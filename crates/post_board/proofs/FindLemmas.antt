@@ -1,19 +1,9 @@
 -- What a look at the stops, and one at the own mailbox after it, leave of a seat with an open request.
-use Rattle.std.proofs.Common.{◌≡◌, ℕ, ◌+◌, ◌*◌, refl, sym, subst, ap, ◌∙◌, Bool, false, cond, List, [], ◌∷◌, ◌++◌, append_assoc, Some}
-use Rattle.post_board.specs.Readings.{Adds, Four, Steps}
-use Rattle.post_board.specs.Shown.{victim_of}
-use Rattle.post_board.specs.Words.{sign, has_bit, full, emptied}
-use Rattle.post_board.specs.BoardSeats.{IsSeat, shown_known, own_by}
-use Rattle.post_board.specs.BoardWork.{Finds}
-use Rattle.post_board.specs.BoardSteps.{SeatState, noted, knowing, after_look, learn}
-use Rattle.post_board.specs.LateSteps.{stop_seen, after_stops}
-use Rattle.post_board.specs.declared.answers.Reading.{Reading}
-use Rattle.post_board.specs.declared.board_views.OwnMailbox.{OwnMailbox}
-use Rattle.post_board.specs.declared.board_answers.Reply.{Reply}
-use Rattle.post_board.specs.declared.board_answers.Reply.TheVariants.{Full, Refused}
-use Rattle.post_board.specs.declared.board_views.OwnMailbox.TheVariants.{Open, Left, Filled, Emptied}
-use Rattle.post_board.specs.declared.boards.Board.{Board}
-use Rattle.post_board.specs.declared.boards.BoardSeat.{BoardSeat}
+use Rattle.post_board.proofs.Prelude.{◌≡◌, ℕ, ◌+◌, ◌*◌, refl, sym, subst, ap, ◌∙◌, Bool, false, cond, List, [], ◌∷◌, ◌++◌, append_assoc, Some, Adds, Four}
+use Rattle.post_board.proofs.Prelude.{Steps, victim_of, sign, has_bit, full, emptied, shown_known, own_by, Finds, SeatState, noted, knowing, after_look, learn}
+use Rattle.post_board.proofs.Prelude.{stop_seen, after_stops, Reading, OwnMailbox, Reply, Full, Open, Left, Filled, Emptied, Board, BoardSeat}
+use Rattle.post_board.specs.BoardSeats.{IsSeat}
+use Rattle.post_board.specs.declared.board_answers.Reply.TheVariants.{Refused}
 use Rattle.post_board.proofs.WordLemmas.{sign_of_word}
 use Rattle.post_board.proofs.CallLemmas.{learn_full, victim_here}
 

@@ -1,26 +1,11 @@
 -- What a step on one word leaves of the rule.
-use Rattle.std.proofs.Common.{◌≡◌, ℕ, zero, suc, ◌+◌, ◌<◌, ◌≤◌, ◌≢◌, refl, sym, subst, ap, ◌∙◌, arith, Bool, true, false, cond, nat_lt, List}
-use Rattle.std.proofs.Common.{Option, [], ◌∷◌, length, get_or, set, get_or-set_same, get_or-set_other, length-set, ◌==◌}
-use Rattle.std.proofs.lemmas.Bool.{lt-ltb, ltb-true}
-use mathlib.Core.Option.{none, some}
+use Rattle.post_board.proofs.Prelude.{◌≡◌, ℕ, zero, suc, ◌+◌, ◌<◌, ◌≤◌, ◌≢◌, refl, sym, subst, ap, ◌∙◌, arith, Bool, true, false, cond, nat_lt, List, Option}
+use Rattle.post_board.proofs.Prelude.{[], ◌∷◌, length, get_or, set, get_or-set_same, get_or-set_other, length-set, ◌==◌, lt-ltb, ltb-true, none, some, dite}
+use Rattle.post_board.proofs.Prelude.{ℕ_discrete, get_elem?, set-get_or, put, put_here, put_elsewhere, Face, Seats, seat_knows, Token, Colour, has_bit, Sign}
+use Rattle.post_board.proofs.Prelude.{resting, sign, token_read, Parcel, TableState, MailboxFacts, RingFacts, HaltFacts, Moment, Rule, signs_in, slots_in}
+use Rattle.post_board.proofs.Prelude.{token_in, halt_in, stops_in, fresh, OwnFits, Away, HereFits, knows, Known, View, OwnMailbox}
+use Rattle.post_board.specs.BoardRule.{place_of}
 use mathlib.Core.Option as Core
-use mathlib.Core.Logic.{dite}
-use native.Mathlib.Decide.{ℕ_discrete}
-use lib.ListN.{get_elem?}
-use lib.Seq.{set-get_or}
-use Rattle.ring_core.specs.Picture.{put}
-use Rattle.ring_core.proofs.PictureLemmas.{put_here, put_elsewhere}
-use Rattle.ring_core.proofs.SeatLemmas.{Face, Seats, seat_knows}
-use Rattle.ring_core.specs.declared.states.Token.{Token}
-use Rattle.ring_core.specs.declared.states.Colour.{Colour}
-use Rattle.post_board.specs.Words.{has_bit, Sign, resting, sign, token_read}
-use Rattle.post_board.specs.BoardRule.{Parcel, TableState, MailboxFacts, RingFacts, HaltFacts, Moment, Rule, signs_in, slots_in, token_in}
-use Rattle.post_board.specs.BoardRule.{halt_in, stops_in, fresh, OwnFits, Away, place_of}
-use Rattle.post_board.specs.Plain.{HereFits}
-use Rattle.post_board.specs.BoardSteps.{knows}
-use Rattle.post_board.specs.declared.board_views.Known.{Known}
-use Rattle.post_board.specs.declared.board_views.View.{View}
-use Rattle.post_board.specs.declared.board_views.OwnMailbox.{OwnMailbox}
 use Rattle.post_board.proofs.FactLemmas.{unmoved}
 use Rattle.post_board.proofs.RingLemmas.{calm_all}
 

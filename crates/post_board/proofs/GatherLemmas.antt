@@ -1,22 +1,13 @@
 -- Seats that come together, the last one first.
-use Rattle.std.proofs.Common.{◌≡◌, ℕ, ◌+◌, ◌<◌, ◌⊎◌, sym, subst, ap, ◌∙◌, arith, Bool, true, false, List, [], ◌∷◌, ◌++◌, map}
-use Rattle.std.proofs.Common.{None, length, length-append, get_or}
-use Rattle.std.specs.List.{All, Contains}
-use Rattle.std.proofs.Math.Seq.{get_or-append_seam}
-use Rattle.std.proofs.lemmas.List.{get_or_default, nil_from_length}
-use Rattle.std.proofs.lemmas.List.Elements.{All-nil, All-cons, All-append, Contains-get_or}
-use Rattle.std.proofs.lemmas.List.Sorted.{Contains-permutation, length_permutation}
-use Rattle.ring_core.proofs.TogetherLemmas.{numbered, alone, Brings, Gathered, comes_first, came, comes_next, all_know, first_says}
-use Rattle.post_board.specs.Calls.{AllDone, AllEven, Halters as HaltersAmong}
-use Rattle.atomic_table.specs.Seated.{TableId}
-use Rattle.post_board.specs.BoardRule.{both}
-use Rattle.post_board.specs.BoardSteps.{SeatState, Squares, Halters}
+use Rattle.post_board.proofs.Prelude.{◌≡◌, ℕ, ◌+◌, ◌<◌, ◌⊎◌, sym, subst, ap, ◌∙◌, arith, Bool, true, false, List, [], ◌∷◌, ◌++◌, map, None, length}
+use Rattle.post_board.proofs.Prelude.{length-append, get_or, All, Contains, get_or-append_seam, get_or_default, nil_from_length, All-nil, All-cons, All-append}
+use Rattle.post_board.proofs.Prelude.{Contains-get_or, Contains-permutation, length_permutation, numbered, alone, Brings, Gathered, comes_first, came}
+use Rattle.post_board.proofs.Prelude.{comes_next, all_know, first_says, AllDone, AllEven, TableId, both, SeatState, Squares, first_ended, Known, View, Board}
+use Rattle.post_board.proofs.Prelude.{BoardSeat}
+use Rattle.post_board.specs.BoardSteps.{Halters}
+use Rattle.post_board.specs.BoardSeats.{IsSeat, shown_by}
+use Rattle.post_board.specs.Calls.{Halters as HaltersAmong}
 use Rattle.post_board.proofs.CallLemmas.{serves_none}
-use Rattle.post_board.specs.BoardSeats.{IsSeat, shown_by, first_ended}
-use Rattle.post_board.specs.declared.board_views.Known.{Known}
-use Rattle.post_board.specs.declared.board_views.View.{View}
-use Rattle.post_board.specs.declared.boards.Board.{Board}
-use Rattle.post_board.specs.declared.boards.BoardSeat.{BoardSeat}
 
 abbrev pub IsDone : Known → Type 0
 IsDone x = (x.ended ≡ true) ⊎ (x.stopped ≡ true)

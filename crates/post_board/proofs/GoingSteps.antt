@@ -1,13 +1,7 @@
 -- A step of a seat that neither ended nor stopped: where it acts, and the facts that it leaves as they are.
-use Rattle.std.proofs.Common.{◌≡◌, ◌≢◌, ℕ, ◌+◌, ◌<◌, refl, sym, subst, ap, ◌∙◌, arith, true, length, get_or, set, None}
-use mathlib.Core.Option.{some}
-use lib.ListN.{get_elem?}
-use Rattle.ring_core.specs.Picture.{put}
-use Rattle.post_board.specs.Words.{resting, serving, sign, word_of}
-use Rattle.post_board.specs.BoardRule.{TableState, MailboxFacts, RingFacts, HaltFacts, Rule, signs_in, slots_in, token_in, halt_in, stops_in}
-use Rattle.post_board.specs.BoardSteps.{Going, SeatState, noted, knows, after_rest}
-use Rattle.post_board.specs.declared.board_views.Known.{Known}
-use Rattle.post_board.specs.declared.board_views.OwnMailbox.TheVariants.{Left}
+use Rattle.post_board.proofs.Prelude.{◌≡◌, ◌≢◌, ℕ, ◌+◌, ◌<◌, refl, sym, subst, ap, ◌∙◌, arith, true, length, get_or, set, None, some, get_elem?, put, resting}
+use Rattle.post_board.proofs.Prelude.{serving, sign, word_of, TableState, MailboxFacts, RingFacts, HaltFacts, Rule, signs_in, slots_in, token_in, halt_in}
+use Rattle.post_board.proofs.Prelude.{stops_in, Going, SeatState, noted, knows, after_rest, Known, Left}
 use Rattle.post_board.proofs.WordLemmas.{sign_of_word}
 use Rattle.post_board.proofs.MailboxLemmas.{own_moves}
 use Rattle.post_board.proofs.HaltLemmas.{halt_same}

@@ -1,11 +1,5 @@
 -- A step at the seat of id keeps the facts of the halt and the stops.
-use Rattle.std.proofs.Common.{◌≡◌, ℕ, ◌<◌, sym, ◌∙◌, Bool, true, false}
-use Rattle.ring_core.specs.Picture.{put}
-use Rattle.ring_core.proofs.PictureLemmas.{put_all}
-use Rattle.post_board.specs.BoardRule.{HaltFacts, serves}
-use Rattle.post_board.specs.declared.board_views.Known.{Known}
-use Rattle.post_board.specs.declared.board_views.OwnMailbox.TheVariants.{Resting, Left}
-use Rattle.ring_core.proofs.PictureLemmas.{put_same}
+use Rattle.post_board.proofs.Prelude.{◌≡◌, ℕ, ◌<◌, sym, ◌∙◌, Bool, true, false, put, put_all, HaltFacts, serves, Known, Resting, Left, put_same}
 
 abbrev pub IsGone : Known → Type 0
 IsGone x = (x.own ≡ Resting) × (x.ended ≡ false) × ((k : ℕ) → serves x k ≡ false)

@@ -1,25 +1,13 @@
 -- The steps on the halt word and the stops word, and withdrawing.
-use Rattle.std.proofs.Common.{◌≡◌, ℕ, ◌+◌, ◌^◌, ◌<◌, ◌≢◌, ◌⊎◌, inl, inr, ⊎_elim, refl, sym, subst, ap, ◌∙◌, Bool, true, false, cond, get_or, set}
-use Rattle.std.proofs.Common.{length-set, eqb, ◌==◌, bit_or, Some}
-use Rattle.std.proofs.lemmas.Bool.{eqb-true}
+use Rattle.post_board.proofs.Prelude.{◌≡◌, ℕ, ◌+◌, ◌^◌, ◌<◌, ◌≢◌, ◌⊎◌, inl, inr, ⊎_elim, refl, sym, subst, ap, ◌∙◌, Bool, true, false, cond, get_or, set}
+use Rattle.post_board.proofs.Prelude.{length-set, eqb, ◌==◌, bit_or, Some, eqb-true, either, step, Act, keeps, stepped, Valid, carried_after, Allows, exchanged}
+use Rattle.post_board.proofs.Prelude.{none, put, put_here, put_all, has_bit, Sign, resting, asking, serving, full, fetching, emptied, sign, word_of, Parcel}
+use Rattle.post_board.proofs.Prelude.{TableState, RingFacts, Rule, serves, signs_in, slots_in, token_in, halt_in, stops_in, OwnFits, OpenFits, asked_of, Going}
+use Rattle.post_board.proofs.Prelude.{SeatState, noted, knows, after_rest, after_look, learn, SetHaltTells, halt_seen, LoadHaltTells, StopTells, stop_seen}
+use Rattle.post_board.proofs.Prelude.{after_stops, LoadStopsTells, WithdrawTells, Known, View, OwnMailbox, Resting, Open, Left, Filled, Emptied, Getting}
+use Rattle.post_board.proofs.Prelude.{put_same}
 use Rattle.post_board.proofs.BitLemmas.{bit_set, bit_else}
-use prog.Atomic.{either}
-use Rattle.atomic_table.specs.Table.{step, Act, keeps, stepped, Valid, carried_after, Allows}
-use Rattle.atomic_table.proofs.Lists.{exchanged}
-use mathlib.Core.Option.{none}
-use Rattle.ring_core.specs.Picture.{put}
-use Rattle.ring_core.proofs.PictureLemmas.{put_here, put_all}
-use Rattle.post_board.specs.Words.{has_bit, Sign, resting, asking, serving, full, fetching, emptied, sign, word_of}
 use Rattle.post_board.proofs.WordLemmas.{sign_of_word}
-use Rattle.post_board.specs.BoardRule.{Parcel, TableState, RingFacts, Rule, serves, signs_in, slots_in, token_in, halt_in, stops_in}
-use Rattle.post_board.specs.BoardRule.{OwnFits, OpenFits, asked_of}
-use Rattle.post_board.specs.BoardSteps.{Going, SeatState, noted, knows, after_rest, after_look, learn}
-use Rattle.post_board.specs.LateSteps.{SetHaltTells, halt_seen, LoadHaltTells, StopTells, stop_seen, after_stops, LoadStopsTells, WithdrawTells}
-use Rattle.post_board.specs.declared.board_views.Known.{Known}
-use Rattle.post_board.specs.declared.board_views.View.{View}
-use Rattle.post_board.specs.declared.board_views.OwnMailbox.{OwnMailbox}
-use Rattle.post_board.specs.declared.board_views.OwnMailbox.TheVariants.{Resting, Open, Left, Filled, Emptied, Getting}
-use Rattle.ring_core.proofs.PictureLemmas.{put_same}
 use Rattle.post_board.proofs.FactLemmas.{unmoved}
 use Rattle.post_board.proofs.MailboxLemmas.{one_word, slot_under, learns, learns_away}
 use Rattle.post_board.proofs.RingLemmas.{calm_all, withdraws}

@@ -1,9 +1,7 @@
 -- What a rank does that is no event keeps what is true of all that is told.
-use Rattle.std.proofs.Common.{◌≡◌, ℕ, ◌<◌, refl, sym, subst, ap, ◌∙◌, true, List, length, get_or-set_same, length-set}
-use Rattle.std.proofs.lemmas.List.{set-set}
-use Rattle.ring_core.specs.declared.states.Token.{Token}
-use Rattle.post_board.specs.Told.{vacant, empty, Place, Told, no_place, place, put_place, Sound}
-use Rattle.post_board.specs.Deeds.{refuse, take_none, Legal, told_after, withdraw, halt, stop, LegalLate, told_late, LateKeepsSound}
+use Rattle.post_board.proofs.Prelude.{◌≡◌, ℕ, ◌<◌, refl, sym, subst, ap, ◌∙◌, true, List, length, get_or-set_same, length-set, set-set, Token, vacant, empty}
+use Rattle.post_board.proofs.Prelude.{Place, Told, no_place, place, put_place, Sound, refuse, take_none, Legal, told_after, withdraw, halt, stop, LegalLate}
+use Rattle.post_board.proofs.Prelude.{told_late, LateKeepsSound}
 use Rattle.post_board.proofs.DeedLemmas.{sound_after}
 
 -- to take a request back is what it would be if the rank that has stopped had refused it

@@ -1,3 +1,4 @@
+mod Prelude
 pub mod DeedLemmas
 pub mod LateDeeds
 pub mod WordLemmas

@@ -1,20 +1,11 @@
 -- Each kind of step on a mailbox keeps the facts of mailboxes.
-use Rattle.std.proofs.Common.{◌≡◌, ℕ, ◌/◌, ◌%◌, ◌==◌, ◌<◌, ◌≢◌, inl, inr, ⊎_elim, ◌⊎◌, refl, sym, subst, ap, ◌∙◌, arith, Bool, true, false, cond, [], ◌∷◌}
-use Rattle.std.proofs.Common.{◌++◌, length, get_or, set, get_or-set_same, get_or-set_other, length-set, eq-eqb, ne_eqb, Some, None}
-use Rattle.std.proofs.lemmas.List.{append-nil}
-use mathlib.Core.Option.{none, some}
+use Rattle.post_board.proofs.Prelude.{◌≡◌, ℕ, ◌/◌, ◌%◌, ◌==◌, ◌<◌, ◌≢◌, inl, inr, ⊎_elim, ◌⊎◌, refl, sym, subst, ap, ◌∙◌, arith, Bool, true, false, cond, []}
+use Rattle.post_board.proofs.Prelude.{◌∷◌, ◌++◌, length, get_or, set, get_or-set_same, get_or-set_other, length-set, eq-eqb, ne_eqb, Some, None, append-nil}
+use Rattle.post_board.proofs.Prelude.{none, some, dite, ℕ_discrete, put, put_here, put_elsewhere, put_same, Strings, Sign, resting, asking, serving, full}
+use Rattle.post_board.proofs.Prelude.{fetching, emptied, sign_by, word_of, Parcel, MailboxFacts, serves, given, taken, OpenFits, OwnFits, SlotFits, Away}
+use Rattle.post_board.proofs.Prelude.{asked_of, on_way, learn, Known, OwnMailbox, Resting, Open, Left, Filled, Emptied, Getting}
 use mathlib.Core.Option as Core
-use mathlib.Core.Logic.{dite}
-use native.Mathlib.Decide.{ℕ_discrete}
-use Rattle.ring_core.specs.Picture.{put}
-use Rattle.ring_core.proofs.PictureLemmas.{put_here, put_elsewhere, put_same}
-use Rattle.post_board.specs.Shown.{Strings}
-use Rattle.post_board.specs.Words.{Sign, resting, asking, serving, full, fetching, emptied, sign, sign_by, word_of}
-use Rattle.post_board.specs.BoardRule.{Parcel, MailboxFacts, serves, given, taken, OpenFits, OwnFits, SlotFits, Away, asked_of, on_way}
-use Rattle.post_board.specs.BoardSteps.{learn}
-use Rattle.post_board.specs.declared.board_views.Known.{Known}
-use Rattle.post_board.specs.declared.board_views.OwnMailbox.{OwnMailbox}
-use Rattle.post_board.specs.declared.board_views.OwnMailbox.TheVariants.{Resting, Open, Left, Filled, Emptied, Getting}
+use Rattle.post_board.specs.Words.{sign}
 use Rattle.post_board.proofs.Puts.{put_self}
 use Rattle.post_board.proofs.FactLemmas.{moved}
 

@@ -1,26 +1,13 @@
 -- The steps on mailboxes: ask, look, take up, post batch, post none, fetch, rest.
-use Rattle.std.proofs.Common.{◌≡◌, ℕ, ◌+◌, ◌-◌, ◌<◌, ◌≢◌, inl, refl, sym, subst, ap, ◌∙◌, arith, true, false, cond, nat_lt, List, ◌∷◌, get_or}
-use Rattle.std.proofs.Common.{set, length-set, eqb, Some, None}
-use prog.Atomic.{either}
-use Rattle.atomic_table.specs.Table.{step, keeps, takes, gives, rest, put_back, Allows}
-use Rattle.atomic_table.proofs.Lists.{exchanged}
-use mathlib.Core.Option.{none, some}
+use Rattle.post_board.proofs.Prelude.{◌≡◌, ℕ, ◌+◌, ◌-◌, ◌<◌, ◌≢◌, inl, refl, sym, subst, ap, ◌∙◌, arith, true, false, cond, nat_lt, List, ◌∷◌, get_or, set}
+use Rattle.post_board.proofs.Prelude.{length-set, eqb, Some, None, either, step, keeps, takes, gives, rest, put_back, Allows, exchanged, none, some, put}
+use Rattle.post_board.proofs.Prelude.{Colour, Strings, Sign, resting, asking, serving, full, fetching, emptied, sign, word_of, Parcel, MailboxFacts, RingFacts}
+use Rattle.post_board.proofs.Prelude.{HaltFacts, Rule, serves, signs_in, slots_in, token_in, halt_in, stops_in, OwnFits, SlotFits, asked_of, mail_of, Going}
+use Rattle.post_board.proofs.Prelude.{SeatState, noted, knows, knowing, after_ask, AskTells, learn, after_look, LookTells, after_taking, TakeUpTells, ScanTells}
+use Rattle.post_board.proofs.Prelude.{after_post, front, GiveTells, after_refusing, RefuseTells, after_fetch, FetchTells, after_rest, RestTells, RestEmptyTells}
+use Rattle.post_board.proofs.Prelude.{Known, OwnMailbox, Resting, Left, Filled, Emptied, Getting, dite, ℕ_discrete}
 use mathlib.Core.Option as Core
-use Rattle.ring_core.specs.Picture.{put}
-use Rattle.ring_core.specs.declared.states.Colour.{Colour}
-use Rattle.post_board.specs.Shown.{Strings}
-use Rattle.post_board.specs.Words.{Sign, resting, asking, serving, full, fetching, emptied, sign, word_of}
 use Rattle.post_board.proofs.WordLemmas.{sign_of_word}
-use Rattle.post_board.specs.BoardRule.{Parcel, MailboxFacts, RingFacts, HaltFacts, Rule, serves, signs_in, slots_in}
-use Rattle.post_board.specs.BoardRule.{token_in, halt_in, stops_in, OwnFits, SlotFits, asked_of, mail_of}
-use Rattle.post_board.specs.BoardSteps.{Going, SeatState, noted, knows, knowing, after_ask, AskTells, learn, after_look, LookTells, after_taking}
-use Rattle.post_board.specs.BoardSteps.{TakeUpTells, ScanTells, after_post, front, GiveTells, after_refusing, RefuseTells, after_fetch, FetchTells}
-use Rattle.post_board.specs.BoardSteps.{after_rest, RestTells, RestEmptyTells}
-use Rattle.post_board.specs.declared.board_views.Known.{Known}
-use Rattle.post_board.specs.declared.board_views.OwnMailbox.{OwnMailbox}
-use Rattle.post_board.specs.declared.board_views.OwnMailbox.TheVariants.{Resting, Left, Filled, Emptied, Getting}
-use mathlib.Core.Logic.{dite}
-use native.Mathlib.Decide.{ℕ_discrete}
 use Rattle.post_board.proofs.Puts.{put_self}
 use Rattle.post_board.proofs.FactLemmas.{unmoved}
 use Rattle.post_board.proofs.MailboxLemmas.{own_moves, slot_under, not_self, takes_up, refuses, posts, fetches, rests, learns, learns_away}

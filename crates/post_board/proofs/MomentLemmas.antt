@@ -1,11 +1,6 @@
 -- What the rule of a board of atomic words says of every moment.
-use Rattle.std.proofs.Common.{◌≡◌, ℕ, ◌<◌, subst, ap, ◌∙◌, arith, true, length}
-use Rattle.ring_core.specs.Picture.{PictureInvariant}
-use Rattle.ring_core.specs.declared.states.Token.TheVariants.{Over}
-use Rattle.post_board.specs.Told.{Place, picture, Sound}
-use Rattle.post_board.specs.Words.{Sign}
-use Rattle.post_board.specs.BoardRule.{TableState, Rule, signs_in, slots_in, token_in}
-use Rattle.post_board.specs.BoardMoments.{told_at, NothingLeft}
+use Rattle.post_board.proofs.Prelude.{◌≡◌, ℕ, ◌<◌, subst, ap, ◌∙◌, arith, true, length, PictureInvariant, Over, Place, picture, Sound, Sign, TableState, Rule}
+use Rattle.post_board.proofs.Prelude.{signs_in, slots_in, token_in, told_at, NothingLeft}
 use Rattle.post_board.proofs.Sheets.{places, place_at, sheet_size}
 use Rattle.post_board.proofs.MailboxLemmas.{not_full}
 use Rattle.post_board.proofs.RingLemmas.{sound_now, over_quiet}

@@ -1,18 +1,9 @@
 -- What a rank that asks, takes or sees the end does to a plain board.
-use Rattle.std.proofs.Common.{◌≡◌, ℕ, ◌<◌, ◌≢◌, refl, sym, subst, ap, ◌∙◌, true, false}
-use Rattle.std.proofs.Common.{List, length, map, set, Option, Some, None}
-use Rattle.std.proofs.lemmas.List.{length-map}
-use Rattle.ring_core.specs.declared.states.Colour.{Colour}
-use Rattle.ring_core.specs.declared.states.Token.{Token}
-use Rattle.ring_core.specs.declared.states.Token.TheVariants.{At, Over}
-use Rattle.post_board.specs.Shown.{Strings, victim_of}
-use Rattle.post_board.specs.Told.{vacant, asked, Place, place, put_place}
-use Rattle.post_board.specs.Deeds.{ask, take, take_none, see_over, Acts}
-use Rattle.post_board.specs.Plain.{mail_of, place_of, told_of, plain, shown_by, OwnFits, HereFits, Match, Fits, IsSeat}
-use Rattle.post_board.specs.declared.plain_ranks.PlainMailbox.{PlainMailbox}
-use Rattle.post_board.specs.declared.plain_ranks.PlainMailbox.TheVariants.{Rest, Wants, Served, Holds, Refused}
-use Rattle.post_board.specs.declared.plain_ranks.PlainRank.{PlainRank}
-use Rattle.post_board.specs.declared.plain_seats.PlainSeat.{PlainSeat}
+use Rattle.post_board.proofs.Prelude.{◌≡◌, ℕ, ◌<◌, ◌≢◌, refl, sym, subst, ap, ◌∙◌, true, false, List, length, map, set, Option, Some, None, length-map, Colour}
+use Rattle.post_board.proofs.Prelude.{Token, At, Over, Strings, victim_of, vacant, asked, Place, place, put_place, ask, take, take_none, see_over, Acts}
+use Rattle.post_board.proofs.Prelude.{place_of, told_of, plain, shown_by, HereFits, Match, Fits, IsSeat, PlainMailbox, Rest, Wants, Served, Holds, Refused}
+use Rattle.post_board.proofs.Prelude.{PlainRank, PlainSeat}
+use Rattle.post_board.specs.Plain.{mail_of, OwnFits}
 use Rattle.post_board.proofs.PlainFrames.{After, told_place, Alike, own}
 
 pub inside : (ranks : List PlainRank) (r : ℕ) → r < length ranks → r < length (map place_of ranks)

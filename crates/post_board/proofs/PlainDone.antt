@@ -1,14 +1,7 @@
 -- A deed by which a rank of a plain board changes its own place: the masks, the halt and the stops stay right.
-use Rattle.std.proofs.Common.{◌≡◌, ℕ, sym, ap, ◌∙◌, false, set, get_or}
-use Rattle.std.proofs.lemmas.List.{get_or_read}
-use Rattle.ring_core.specs.declared.states.Token.{Token}
-use Rattle.post_board.specs.Deeds.{Deed}
-use Rattle.post_board.specs.Plain.{no_rank, plain, wants, Seats}
-use Rattle.post_board.specs.declared.plain_boards.PlainBoard.{PlainBoard}
-use Rattle.post_board.specs.declared.plain_ranks.PlainMailbox.{PlainMailbox}
-use Rattle.post_board.specs.declared.plain_ranks.PlainMailbox.TheVariants.{Rest, Served}
-use Rattle.post_board.specs.declared.plain_ranks.PlainRank.{PlainRank}
-use Rattle.post_board.specs.declared.plain_seats.PlainSeat.{PlainSeat}
+use Rattle.post_board.proofs.Prelude.{◌≡◌, ℕ, sym, ap, ◌∙◌, false, set, get_or, get_or_read, Token, Deed, no_rank, plain, wants, PlainBoard, PlainMailbox, Rest}
+use Rattle.post_board.proofs.Prelude.{Served, PlainRank, PlainSeat}
+use Rattle.post_board.specs.Plain.{Seats}
 use Rattle.post_board.proofs.PlainFrames.{After}
 use Rattle.post_board.proofs.AskerLemmas.{noted_same}
 use Rattle.post_board.proofs.PlainHalts.{SameWords, Done, done_by, keeps_own, keeps_put}

@@ -1,20 +1,10 @@
 -- Replacing one rank of a plain board.
-use Rattle.std.proofs.Common.{◌≡◌, ℕ, ◌<◌, ◌≢◌, refl, sym, subst, ap, ◌∙◌, arith, Bool, true, false, List, length, map, replicate, set, get_or}
-use Rattle.std.proofs.Common.{get_or-set_same, get_or-set_other, length-set, Option, Some}
-use Rattle.std.proofs.lemmas.List.{map-set}
+use Rattle.post_board.proofs.Prelude.{◌≡◌, ℕ, ◌<◌, ◌≢◌, refl, sym, subst, ap, ◌∙◌, arith, Bool, true, false, List, length, map, replicate, set, get_or}
+use Rattle.post_board.proofs.Prelude.{get_or-set_same, get_or-set_other, length-set, Option, Some, map-set, dite, ℕ_discrete, Colour, Token, Place, place}
+use Rattle.post_board.proofs.Prelude.{put_place, Sound, Deed, Legal, told_after, place_of, told_of, no_rank, plain, HereFits, Match, Fits, IsSeat, PlainMailbox}
+use Rattle.post_board.proofs.Prelude.{Served, PlainRank, PlainSeat}
 use Rattle.std.proofs.Math.ListN.{get_or-map}
-use mathlib.Core.Logic.{dite}
-use native.Mathlib.Decide.{ℕ_discrete}
-use Rattle.ring_core.specs.declared.states.Colour.{Colour}
-use Rattle.ring_core.specs.declared.states.Token.{Token}
-use Rattle.post_board.specs.Told.{Place, place, put_place, Sound}
-use Rattle.post_board.specs.Deeds.{Deed, Legal, told_after}
 use Rattle.post_board.proofs.DeedLemmas.{sound_after}
-use Rattle.post_board.specs.Plain.{place_of, told_of, no_rank, plain, HereFits, Match, Fits, IsSeat}
-use Rattle.post_board.specs.declared.plain_ranks.PlainMailbox.{PlainMailbox}
-use Rattle.post_board.specs.declared.plain_ranks.PlainMailbox.TheVariants.{Served}
-use Rattle.post_board.specs.declared.plain_ranks.PlainRank.{PlainRank}
-use Rattle.post_board.specs.declared.plain_seats.PlainSeat.{PlainSeat}
 
 -- what a deed of the rank me makes of a plain board and of the seats
 pub record After (me : ℕ) (d : Deed) (ranks : List PlainRank) (token : Token) (ranks' : List PlainRank) (token' : Token) (s' : PlainSeat) : Type 0 where

@@ -1,28 +1,15 @@
 -- What seats of a plain board know of the halt and of the stops stays so, where a deed replaces ranks.
-use Rattle.std.proofs.Common.{◌≡◌, ℕ, ◌<◌, ◌≢◌, ◌⊎◌, ⊎_elim, inr, refl, sym, subst, ap, ◌∙◌, arith, Bool, true, false, List, length, map, set, get_or}
-use Rattle.std.proofs.Common.{get_or-set_same, get_or-set_other, length-set, Option, Some, None}
-use Rattle.std.specs.List.{Contains}
-use Rattle.std.proofs.lemmas.List.{length-map, get_or_default, get_or_past}
-use Rattle.std.proofs.lemmas.List.Elements.{Contains-get_or}
-use Rattle.std.proofs.lemmas.List.Sorted.{Contains-permutation, length_permutation}
-use mathlib.Core.Logic.{dite}
-use native.Mathlib.Decide.{ℕ_discrete, dec_lt}
-use Rattle.ring_core.specs.declared.states.Token.{Token}
-use Rattle.ring_core.specs.declared.states.Token.TheVariants.{Over}
-use Rattle.ring_core.specs.Picture.{is_filled, PictureInvariant}
-use Rattle.post_board.specs.Told.{Mail, vacant, asked, full, empty, mailbox, Place, Told, no_place, place, picture, is_full}
-use Rattle.post_board.specs.Deeds.{Deed, ask, give, refuse, take, take_none, pass, restart, conclude, see_over, Legal, told_after}
-use Rattle.post_board.specs.Calls.{AllDone, Halters, NoneOnTheWay}
-use Rattle.post_board.specs.Plain.{mail_of, place_of, told_of, told_by, worded, is_some, no_rank, plain, shown_by, Gone, HaltFits, IsSeat, Noted, Seats}
-use Rattle.post_board.specs.declared.plain_boards.PlainBoard.{PlainBoard}
-use Rattle.post_board.specs.declared.plain_ranks.PlainMailbox.{PlainMailbox}
-use Rattle.post_board.specs.declared.plain_ranks.PlainMailbox.TheVariants.{Rest, Served}
-use Rattle.post_board.specs.declared.plain_ranks.PlainRank.{PlainRank}
-use Rattle.post_board.specs.declared.plain_seats.PlainSeat.{PlainSeat}
-use Rattle.ring_core.proofs.TogetherLemmas.{spare, numbered}
+use Rattle.post_board.proofs.Prelude.{◌≡◌, ℕ, ◌<◌, ◌≢◌, ◌⊎◌, ⊎_elim, inr, refl, sym, subst, ap, ◌∙◌, arith, Bool, true, false, List, length, map, set, get_or}
+use Rattle.post_board.proofs.Prelude.{get_or-set_same, get_or-set_other, length-set, Option, Some, None, Contains, length-map, get_or_default, get_or_past}
+use Rattle.post_board.proofs.Prelude.{Contains-get_or, Contains-permutation, length_permutation, dite, ℕ_discrete, dec_lt, Token, Over, is_filled}
+use Rattle.post_board.proofs.Prelude.{PictureInvariant, Mail, vacant, asked, empty, mailbox, Place, Told, no_place, place, picture, is_full, Deed, ask, give}
+use Rattle.post_board.proofs.Prelude.{refuse, take, take_none, pass, restart, conclude, see_over, Legal, told_after, AllDone, Halters, NoneOnTheWay, place_of}
+use Rattle.post_board.proofs.Prelude.{told_of, told_by, worded, is_some, no_rank, plain, shown_by, Gone, HaltFits, IsSeat, Noted, PlainBoard, PlainMailbox}
+use Rattle.post_board.proofs.Prelude.{Rest, Served, PlainRank, PlainSeat, spare, numbered, false_from_ne_true}
+use Rattle.post_board.specs.Told.{full}
+use Rattle.post_board.specs.Plain.{mail_of, Seats}
 use Rattle.post_board.proofs.PlainFrames.{After, told_place}
 use Rattle.post_board.proofs.PlainDeeds.{inside}
-use Rattle.std.proofs.lemmas.Bool.{false_from_ne_true}
 
 -- no deed that is an event looks at the words of the halt and the stops
 legal_worded : (me : ℕ) (d : Deed) (t : Told) (halter : Option ℕ) (stops : List Bool) → Legal me d t → Legal me d (worded halter stops t)

@@ -1,23 +1,12 @@
 -- What taking up, giving and refusing do to a plain board.
-use Rattle.std.proofs.Common.{◌≡◌, ℕ, ◌<◌, ◌≢◌, refl, sym, subst, ap, ◌∙◌, arith, Bool, true, false, cond, nat_lt}
-use Rattle.std.proofs.Common.{List, length, map, replicate, set, get_or, get_or-set_same, get_or-set_other, length-set, Option, Some, None}
-use Rattle.std.proofs.lemmas.Bool.Decides.{nat_tests}
-use mathlib.Core.Logic.{dite}
-use native.Mathlib.Decide.{ℕ_discrete, dec_le}
-use Rattle.std.proofs.Math.ListN.{get_or-eq_default}
-use Rattle.ring_core.specs.declared.states.Colour.{Colour}
-use Rattle.ring_core.specs.declared.states.Colour.TheVariants.{Black}
-use Rattle.ring_core.specs.declared.states.Token.{Token}
-use Rattle.post_board.specs.Shown.{Strings}
-use Rattle.std.proofs.Math.Seq.{map-set_same}
-use Rattle.post_board.specs.Told.{Mail, asked, full, empty, Place, Told, place, put_place, Sound}
-use Rattle.post_board.specs.Deeds.{give, refuse, Legal, told_after}
+use Rattle.post_board.proofs.Prelude.{◌≡◌, ℕ, ◌<◌, ◌≢◌, refl, sym, subst, ap, ◌∙◌, arith, Bool, true, false, cond, nat_lt, List, length, map, replicate, set}
+use Rattle.post_board.proofs.Prelude.{get_or, get_or-set_same, get_or-set_other, length-set, Option, Some, None, nat_tests, dite, ℕ_discrete, dec_le}
+use Rattle.post_board.proofs.Prelude.{get_or-eq_default, Colour, Black, Token, Strings, map-set_same, Mail, asked, empty, Place, Told, place, put_place, Sound}
+use Rattle.post_board.proofs.Prelude.{give, refuse, Legal, told_after, place_of, told_of, no_rank, plain, wants, Match, Fits, IsSeat, PlainMailbox, Rest, Wants}
+use Rattle.post_board.proofs.Prelude.{Served, Holds, Refused, PlainRank, PlainSeat}
+use Rattle.post_board.specs.Told.{full}
+use Rattle.post_board.specs.Plain.{mail_of, OwnFits}
 use Rattle.post_board.proofs.DeedLemmas.{sound_after}
-use Rattle.post_board.specs.Plain.{mail_of, place_of, told_of, no_rank, plain, wants, OwnFits, Match, Fits, IsSeat}
-use Rattle.post_board.specs.declared.plain_ranks.PlainMailbox.{PlainMailbox}
-use Rattle.post_board.specs.declared.plain_ranks.PlainMailbox.TheVariants.{Rest, Wants, Served, Holds, Refused}
-use Rattle.post_board.specs.declared.plain_ranks.PlainRank.{PlainRank}
-use Rattle.post_board.specs.declared.plain_seats.PlainSeat.{PlainSeat}
 use Rattle.post_board.proofs.PlainFrames.{After, told_put, told_place, Alike, frame, reserve}
 use Rattle.post_board.proofs.PlainDeeds.{acts, alike_same, inside, matching, mine, unlike}
 

@@ -1,19 +1,10 @@
 -- A board on which no rank has done anything, and its seats.
-use Rattle.std.proofs.Common.{◌≡◌, ℕ, zero, suc, ◌<◌, ◌≤◌, ◌≢◌, ◌∷◌, inr, refl, sym, subst, ap, ◌∙◌, arith, Bool, true, false, List, length, map}
-use Rattle.std.proofs.Common.{replicate, get_or, Option, Some, None}
-use Rattle.std.proofs.lemmas.List.{length-replicate, get_or-replicate, get_or_past}
-use mathlib.Core.Logic.{dite}
-use native.Mathlib.Decide.{dec_le}
-use Rattle.ring_core.specs.declared.states.Colour.{Colour}
-use Rattle.ring_core.specs.declared.states.Colour.TheVariants.{White, Black}
-use Rattle.ring_core.specs.declared.states.Token.TheVariants.{At, Over}
-use Rattle.post_board.specs.Shown.{Shown}
-use Rattle.post_board.specs.Told.{vacant, Place, no_place, Sound}
-use Rattle.post_board.specs.Fresh.{fresh, fresh_place, fresh_told}
-use Rattle.post_board.specs.Plain.{place_of, told_of, no_rank, fresh_rank, plain, shown_by, OwnFits, HereFits, Match, Fits, HaltFits, IsSeat}
-use Rattle.post_board.specs.declared.plain_ranks.PlainMailbox.TheVariants.{Rest, Served}
-use Rattle.post_board.specs.declared.plain_ranks.PlainRank.{PlainRank}
-use Rattle.post_board.specs.declared.plain_seats.PlainSeat.{PlainSeat}
+use Rattle.post_board.proofs.Prelude.{◌≡◌, ℕ, zero, suc, ◌<◌, ◌≤◌, ◌≢◌, ◌∷◌, inr, refl, sym, subst, ap, ◌∙◌, arith, Bool, true, false, List, length, map}
+use Rattle.post_board.proofs.Prelude.{replicate, get_or, Option, Some, None, length-replicate, get_or-replicate, get_or_past, dite, dec_le, Colour, White}
+use Rattle.post_board.proofs.Prelude.{Black, At, Over, Shown, vacant, Place, no_place, Sound, fresh_place, fresh_told, place_of, told_of, no_rank, fresh_rank}
+use Rattle.post_board.proofs.Prelude.{plain, shown_by, HereFits, Match, Fits, HaltFits, IsSeat, Rest, Served, PlainRank, PlainSeat}
+use Rattle.post_board.specs.Fresh.{fresh}
+use Rattle.post_board.specs.Plain.{OwnFits}
 
 module _ {A : Type 0} where
   -- what holds of x and of the default holds of each element that is read

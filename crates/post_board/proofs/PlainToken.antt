@@ -1,23 +1,10 @@
 -- What moving the token on and ending the run do to a plain board.
-use Rattle.std.proofs.Common.{◌≡◌, ℕ, ◌-◌, ◌<◌, ◌⊎◌, inl, inr, ⊎_elim, refl, sym, subst, ap, ◌∙◌, true, false}
-use Rattle.std.proofs.Common.{List, length, map, set, Option, Some, None}
-use Rattle.std.proofs.lemmas.List.{length-map}
-use Rattle.ring_core.specs.declared.states.Colour.{Colour}
-use Rattle.ring_core.specs.declared.states.Colour.TheVariants.{White, Black}
-use Rattle.ring_core.specs.declared.states.Token.{Token}
-use Rattle.ring_core.specs.declared.states.Token.TheVariants.{At, Over}
-use Rattle.ring_core.specs.World.{darker}
-use Rattle.post_board.specs.Shown.{is_here, token_of, mixed}
-use Rattle.ring_core.specs.Picture.{PictureInvariant}
-use Rattle.post_board.specs.Told.{Place, Told, place, put_place, picture}
-use Rattle.post_board.specs.Deeds.{pass, restart, conclude}
-use Rattle.post_board.specs.Plain.{place_of, told_of, plain, token_colour, shown_by, HereFits, IsSeat}
-use Rattle.post_board.specs.declared.plain_ranks.PlainMailbox.TheVariants.{Rest}
-use Rattle.post_board.specs.declared.plain_ranks.PlainRank.{PlainRank}
-use Rattle.post_board.specs.declared.plain_seats.PlainSeat.{PlainSeat}
+use Rattle.post_board.proofs.Prelude.{◌≡◌, ℕ, ◌-◌, ◌<◌, ◌⊎◌, inl, inr, ⊎_elim, refl, sym, subst, ap, ◌∙◌, true, false, List, length, map, set, Option, Some}
+use Rattle.post_board.proofs.Prelude.{None, length-map, Colour, White, Black, Token, At, Over, darker, is_here, token_of, mixed, PictureInvariant, Place, Told}
+use Rattle.post_board.proofs.Prelude.{place, put_place, picture, pass, restart, conclude, place_of, told_of, plain, token_colour, shown_by, HereFits, IsSeat}
+use Rattle.post_board.proofs.Prelude.{Rest, PlainRank, PlainSeat, false_from_ne_true}
 use Rattle.post_board.proofs.PlainFrames.{After, told_place, own}
 use Rattle.post_board.proofs.PlainDeeds.{acts, alike_same, inside, mail_is, matching, mine, not_here, own_rest}
-use Rattle.std.proofs.lemmas.Bool.{false_from_ne_true}
 
 here_is : (h : Option Colour) (r : ℕ) (token : Token) → elim h [ None ↦ false | Some c ↦ true ] ≡ true → HereFits h r token
     → token ≡ At r (elim h [ None ↦ Black | Some c ↦ c ])

@@ -1,14 +1,8 @@
 -- A rank of a plain board takes back its request to a rank that has stopped.
-use Rattle.std.proofs.Common.{◌≡◌, ℕ, ◌^◌, ◌<◌, ◌≢◌, refl, sym, subst, ap, ◌∙◌, Bool, true, false, List, length, set, get_or, get_or-set_same}
-use Rattle.std.proofs.Common.{get_or-set_other, bit_xor, Option, Some, None}
-use Rattle.ring_core.specs.declared.states.Token.{Token}
-use Rattle.post_board.specs.Shown.{victim_of}
-use Rattle.post_board.specs.Told.{vacant, Place, Told, put_place, Sound}
-use Rattle.post_board.specs.Deeds.{Late, withdraw, LegalLate, told_late}
-use Rattle.post_board.specs.Plain.{told_of, worded, no_rank, plain, wants, shown_by, Match, Noted, HaltFits, IsSeat}
-use Rattle.post_board.specs.declared.plain_ranks.PlainMailbox.TheVariants.{Rest, Wants, Served}
-use Rattle.post_board.specs.declared.plain_ranks.PlainRank.{PlainRank}
-use Rattle.post_board.specs.declared.plain_seats.PlainSeat.{PlainSeat}
+use Rattle.post_board.proofs.Prelude.{◌≡◌, ℕ, ◌^◌, ◌<◌, ◌≢◌, refl, sym, subst, ap, ◌∙◌, Bool, true, false, List, length, set, get_or, get_or-set_same}
+use Rattle.post_board.proofs.Prelude.{get_or-set_other, bit_xor, Option, Some, None, Token, victim_of, vacant, Place, Told, put_place, Sound, Late, withdraw}
+use Rattle.post_board.proofs.Prelude.{LegalLate, told_late, told_of, worded, no_rank, plain, wants, shown_by, Match, Noted, HaltFits, IsSeat, Rest, Wants}
+use Rattle.post_board.proofs.Prelude.{Served, PlainRank, PlainSeat}
 use Rattle.post_board.proofs.AskerLemmas.{noted_taken}
 use Rattle.post_board.proofs.LateDeeds.{sound_worded, late_sound}
 use Rattle.post_board.proofs.PlainDeeds.{acts, inside, mine, matching, mail_is, asked_is, unlike}

@@ -1,25 +1,13 @@
 -- A step at the seat of id keeps the picture sound, and what seats know of the token.
-use Rattle.std.proofs.Common.{◌≡◌, ℕ, ◌-◌, ◌<◌, ◌≢◌, ◌⊎◌, inl, inr, ⊎_elim, refl, sym, subst, ap, ◌∙◌, arith, Bool, true, false, cond, nat_lt, eq-eqb}
-use Rattle.std.proofs.Common.{[], length, Option, Some, None}
-use Rattle.ring_core.specs.Picture.{put, PictureInvariant, is_filled}
-use Rattle.ring_core.specs.World.{darker, is_over}
-use Rattle.ring_core.specs.Step.{is_at}
-use Rattle.ring_core.proofs.PictureLemmas.{put_here, put_elsewhere, put_all}
-use Rattle.ring_core.specs.declared.states.Colour.{Colour}
-use Rattle.ring_core.specs.declared.states.Colour.TheVariants.{White, Black}
-use Rattle.ring_core.specs.declared.states.Token.{Token}
-use Rattle.ring_core.specs.declared.states.Token.TheVariants.{At, Over}
-use Rattle.post_board.specs.Told.{Place, Told, vacant, asked, full as filled, empty, place, put_place, mailbox, picture, Sound}
-use Rattle.post_board.specs.Deeds.{Deed, ask, give, refuse, take, take_none, pass, restart, conclude, see_over, told_after, Legal}
-use Rattle.post_board.specs.Plain.{HereFits}
-use Rattle.post_board.specs.Reached.{Reached, begun, did}
+use Rattle.post_board.proofs.Prelude.{◌≡◌, ℕ, ◌-◌, ◌<◌, ◌≢◌, ◌⊎◌, inl, inr, ⊎_elim, refl, sym, subst, ap, ◌∙◌, arith, Bool, true, false, cond, nat_lt, eq-eqb}
+use Rattle.post_board.proofs.Prelude.{[], length, Option, Some, None, put, PictureInvariant, is_filled, darker, is_over, is_at, put_here, put_elsewhere}
+use Rattle.post_board.proofs.Prelude.{put_all, Colour, White, Black, Token, At, Over, Place, Told, vacant, asked, empty, place, put_place, mailbox, picture}
+use Rattle.post_board.proofs.Prelude.{Sound, Deed, ask, give, refuse, take, take_none, pass, restart, conclude, see_over, told_after, Legal, HereFits, Reached}
+use Rattle.post_board.proofs.Prelude.{begun, did, Sign, resting, asking, full, fetching, emptied, mail_of, sheet, RingFacts, Known, dite, ℕ_discrete}
+use Rattle.post_board.specs.BoardRule.{place_of, told_of}
+use Rattle.post_board.specs.Told.{full as filled}
 use Rattle.post_board.proofs.DeedLemmas.{sound_after}
 use Rattle.post_board.proofs.PlainStart.{sound_at_first}
-use Rattle.post_board.specs.Words.{Sign, resting, asking, full, fetching, emptied}
-use Rattle.post_board.specs.BoardRule.{mail_of, place_of, sheet, told_of, RingFacts}
-use Rattle.post_board.specs.declared.board_views.Known.{Known}
-use mathlib.Core.Logic.{dite}
-use native.Mathlib.Decide.{ℕ_discrete}
 use Rattle.post_board.proofs.Puts.{put_self}
 use Rattle.post_board.proofs.Sheets.{sheet_size, place_at, places, seen_own, seen_two, seen_same, done, put_one, put_two}
 

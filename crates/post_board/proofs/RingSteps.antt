@@ -1,26 +1,10 @@
 -- The steps on the ring: load ring, pass, restart, conclude.
-use Rattle.std.proofs.Common.{◌≡◌, ℕ, ◌-◌, ◌<◌, ◌⊎◌, inl, inr, ⊎_elim, refl, sym, subst, ap, ◌∙◌, arith, Bool, true, false, cond, get_or, set}
-use Rattle.std.proofs.Common.{length-set, ◌==◌, Option, Some, None}
-use Rattle.std.proofs.lemmas.Bool.{eqb-true}
-use lib.ListN.{get_elem?}
-use Rattle.atomic_table.specs.Table.{step, keeps, Allows}
-use mathlib.Core.Option.{none, some}
-use Rattle.ring_core.specs.World.{darker}
-use Rattle.ring_core.specs.Step.{is_at}
-use Rattle.ring_core.specs.Picture.{put}
-use Rattle.ring_core.specs.declared.states.Colour.{Colour}
-use Rattle.ring_core.specs.declared.states.Colour.TheVariants.{White, Black}
-use Rattle.ring_core.specs.declared.states.Token.{Token}
-use Rattle.ring_core.specs.declared.states.Token.TheVariants.{At, Over}
-use Rattle.post_board.specs.Plain.{HereFits}
-use Rattle.post_board.specs.Words.{Sign, resting, token_read, word_of_token}
+use Rattle.post_board.proofs.Prelude.{◌≡◌, ℕ, ◌-◌, ◌<◌, ◌⊎◌, inl, inr, ⊎_elim, refl, sym, subst, ap, ◌∙◌, arith, Bool, true, false, cond, get_or, set}
+use Rattle.post_board.proofs.Prelude.{length-set, ◌==◌, Option, Some, None, eqb-true, get_elem?, step, keeps, Allows, none, some, darker, is_at, put, Colour}
+use Rattle.post_board.proofs.Prelude.{White, Black, Token, At, Over, HereFits, Sign, resting, token_read, word_of_token, TableState, MailboxFacts, RingFacts}
+use Rattle.post_board.proofs.Prelude.{Rule, signs_in, slots_in, token_in, OwnFits, Going, SeatState, noted, knows, knowing, heard_at, RingTells, after_pass}
+use Rattle.post_board.proofs.Prelude.{PassTells, after_restart, RestartTells, after_conclude, ConcludeTells, Known, OwnMailbox, Resting}
 use Rattle.post_board.proofs.WordLemmas.{token_of_word}
-use Rattle.post_board.specs.BoardRule.{TableState, MailboxFacts, RingFacts, Rule, signs_in, slots_in, token_in, OwnFits}
-use Rattle.post_board.specs.BoardSteps.{Going, SeatState, noted, knows, knowing, heard_at, RingTells, after_pass, PassTells, after_restart}
-use Rattle.post_board.specs.BoardSteps.{RestartTells, after_conclude, ConcludeTells}
-use Rattle.post_board.specs.declared.board_views.Known.{Known}
-use Rattle.post_board.specs.declared.board_views.OwnMailbox.{OwnMailbox}
-use Rattle.post_board.specs.declared.board_views.OwnMailbox.TheVariants.{Resting}
 use Rattle.post_board.proofs.RingLemmas.{calm_all, sees_over, passes, restarts, concludes, over_quiet, many}
 use Rattle.post_board.proofs.Frames.{frame, mail_stays, at_ring, reads}
 use Rattle.post_board.proofs.GoingSteps.{same_halt}

@@ -1,37 +1,19 @@
 -- Seats are made, taken in, and settle; and the table at the start.
-use Rattle.std.proofs.Common.{◌≡◌, ℕ, zero, suc, ◌+◌, ◌<◌, ◌≤◌, ◌≢◌, ◌⊎◌, ⊎_elim, refl, sym, subst, ap, ◌∙◌, arith, Bool, true, false, cond}
-use Rattle.std.proofs.Common.{nat_lt, List, [], ◌∷◌, ◌++◌, map, replicate, length, get_or, set, get_or-set_same, get_or-set_other, length-set}
-use Rattle.std.proofs.Common.{◌==◌, None}
-use Rattle.std.specs.List.{All, range_with_len}
-use Rattle.std.proofs.lemmas.List.{append-nil, get_or-map, get_or-replicate, length-replicate, length-map}
-use Rattle.std.proofs.lemmas.List.Elements.{All-cons}
-use Rattle.std.proofs.lemmas.Nat.Bits.{bit_at-zero}
-use mathlib.Core.Option.{none, some}
+use Rattle.post_board.proofs.Prelude.{◌≡◌, ℕ, zero, suc, ◌+◌, ◌<◌, ◌≤◌, ◌≢◌, ◌⊎◌, ⊎_elim, refl, sym, subst, ap, ◌∙◌, arith, Bool, true, false, cond, nat_lt}
+use Rattle.post_board.proofs.Prelude.{List, [], ◌∷◌, ◌++◌, map, replicate, length, get_or, set, get_or-set_same, get_or-set_other, length-set, ◌==◌, None, All}
+use Rattle.post_board.proofs.Prelude.{range_with_len, append-nil, get_or-map, get_or-replicate, length-replicate, length-map, All-cons, bit_at-zero, none, some}
+use Rattle.post_board.proofs.Prelude.{step, keeps, opening, Allows, Splits, Joins, Black, At, Place, no_place, has_bit, Sign, resting, sign, token_read}
+use Rattle.post_board.proofs.Prelude.{word_of_token, full, Parcel, TableState, RingFacts, Rule, given, taken, on_way, signs_in, slots_in, token_in, halt_in}
+use Rattle.post_board.proofs.Prelude.{stops_in, OwnFits, SlotFits, fresh, opened, dealing, dealt_out, both, spent, SeatState, noted, knows, LastLookTells}
+use Rattle.post_board.proofs.Prelude.{Known, View, OwnMailbox, Reached, begun, put_same, Seats, first_seat, seat_deals, seat_joins, fresh_place, ext_get_or}
+use Rattle.post_board.proofs.Prelude.{get_or-map-range_with_len}
 use mathlib.Core.Option as Core
-use Rattle.atomic_table.specs.Table.{step, keeps, opening, Allows, Splits, Joins}
-use Rattle.ring_core.specs.declared.states.Colour.TheVariants.{Black}
-use Rattle.ring_core.specs.declared.states.Token.TheVariants.{At}
-use Rattle.post_board.specs.Told.{Place, no_place}
-use Rattle.post_board.specs.Words.{has_bit, Sign, resting, sign, token_read, word_of_token, full}
 use Rattle.post_board.proofs.WordLemmas.{sign_of_word, token_of_word}
-use Rattle.post_board.specs.BoardRule.{Parcel, TableState, RingFacts, Rule, given, taken, on_way}
-use Rattle.post_board.specs.BoardRule.{signs_in, slots_in, token_in, halt_in, stops_in, OwnFits, SlotFits, fresh, opened, dealing}
-use Rattle.post_board.specs.BoardRule.{dealt_out, both, spent}
-use Rattle.post_board.specs.BoardSteps.{SeatState, noted, knows, LastLookTells}
-use Rattle.post_board.specs.declared.board_views.Known.{Known}
-use Rattle.post_board.specs.declared.board_views.View.{View}
-use Rattle.post_board.specs.declared.board_views.OwnMailbox.{OwnMailbox}
 use Rattle.post_board.proofs.MailboxLemmas.{not_full}
 use Rattle.post_board.proofs.RingLemmas.{over_quiet}
 use Rattle.post_board.proofs.MomentLemmas.{ended_over}
 use Rattle.post_board.proofs.PlainStart.{read_of_copies}
-use Rattle.post_board.specs.Reached.{Reached, begun}
 use Rattle.post_board.proofs.HaltLemmas.{halt_moved}
-use Rattle.ring_core.proofs.PictureLemmas.{put_same}
-use Rattle.ring_core.proofs.SeatLemmas.{Seats, first_seat, seat_deals, seat_joins}
-use Rattle.post_board.specs.Fresh.{fresh_place}
-use Rattle.std.proofs.lemmas.List.{ext_get_or}
-use Rattle.std.proofs.lemmas.List.FromFn.{get_or-map-range_with_len}
 use Rattle.post_board.proofs.Sheets.{places, sheet_size}
 use Rattle.post_board.proofs.Frames.{face, seats_of, rule_with, mail_stays, ring_stays, reads}
 

@@ -1,20 +1,9 @@
 -- The picture of a board's words and views, and what a step makes of it.
-use Rattle.std.proofs.Common.{◌≡◌, ℕ, ◌<◌, ◌≢◌, sym, subst, ap, ◌∙◌, arith, List, map, length, get_or, set, get_or-set_same, get_or-set_other, length-set}
-use Rattle.std.specs.List.{range_with_len}
-use Rattle.std.proofs.lemmas.List.{ext_get_or}
-use Rattle.std.proofs.lemmas.List.FromFn.{length-map-range_with_len, get_or-map-range_with_len}
-use mathlib.Core.Logic.{dite}
-use native.Mathlib.Decide.{ℕ_discrete}
-use Rattle.ring_core.specs.Picture.{put}
-use Rattle.ring_core.proofs.PictureLemmas.{put_here, put_elsewhere, put_all}
-use Rattle.ring_core.specs.declared.states.Token.{Token}
-use Rattle.post_board.specs.Told.{Place, no_place, place}
-use Rattle.post_board.specs.Deeds.{Deed, told_after, Legal}
-use Rattle.post_board.specs.Words.{Sign, resting}
-use Rattle.post_board.specs.Reached.{Reached, did}
-use Rattle.post_board.specs.BoardRule.{mail_of, place_of, sheet}
-use Rattle.post_board.specs.declared.board_views.Known.{Known}
-use Rattle.ring_core.proofs.PictureLemmas.{put_same}
+use Rattle.post_board.proofs.Prelude.{◌≡◌, ℕ, ◌<◌, ◌≢◌, sym, subst, ap, ◌∙◌, arith, List, map, length, get_or, set, get_or-set_same, get_or-set_other}
+use Rattle.post_board.proofs.Prelude.{length-set, range_with_len, ext_get_or, length-map-range_with_len, get_or-map-range_with_len, dite, ℕ_discrete, put}
+use Rattle.post_board.proofs.Prelude.{put_here, put_elsewhere, put_all, Token, Place, no_place, place, Deed, told_after, Legal, Sign, resting, Reached, did}
+use Rattle.post_board.proofs.Prelude.{mail_of, sheet, Known, put_same}
+use Rattle.post_board.specs.BoardRule.{place_of}
 
 pub sheet_size : (n : ℕ) (f : ℕ → Place) → length (map f (range_with_len 0 n)) ≡ n
 sheet_size n f = length-map-range_with_len f 0 n

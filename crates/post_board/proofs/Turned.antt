@@ -1,23 +1,11 @@
 -- Each step of a seat is one deed on the picture, or none.
-use Rattle.std.proofs.Common.{◌≡◌, ℕ, ◌<◌, ◌≢◌, refl, sym, subst, ap, ◌∙◌, Bool, true, false, nat_lt, cond, Option, Some}
-use Rattle.ring_core.specs.Picture.{put}
-use Rattle.ring_core.specs.declared.states.Colour.{Colour}
-use Rattle.ring_core.specs.declared.states.Colour.TheVariants.{White, Black}
-use Rattle.ring_core.specs.declared.states.Token.{Token}
-use Rattle.ring_core.specs.declared.states.Token.TheVariants.{At, Over}
-use Rattle.post_board.specs.Told.{Told, Place, vacant, place, put_place}
-use Rattle.post_board.specs.Deeds.{withdraw, told_late}
-use Rattle.post_board.specs.Plain.{HereFits}
-use Rattle.post_board.specs.Words.{Sign, resting, serving}
-use Rattle.post_board.specs.BoardRule.{TableState, Rule, OwnFits, asked_of, mail_of, place_of, serves, signs_in, slots_in, token_in, told_of}
-use Rattle.post_board.specs.BoardMoments.{told_at}
-use Rattle.post_board.specs.BoardSteps.{noted, after_ask, after_look, after_taking, after_post, after_refusing, after_fetch, after_rest, heard_at}
-use Rattle.post_board.specs.BoardSteps.{after_pass, after_restart, after_conclude}
-use Rattle.post_board.specs.LateSteps.{after_halt, halt_seen, after_stop, after_stops}
-use Rattle.post_board.specs.BoardTurns.{IsNone, MailboxTurns, RingTurns, HaltTurns}
-use Rattle.post_board.specs.declared.board_views.Known.{Known}
-use Rattle.post_board.specs.declared.board_views.OwnMailbox.{OwnMailbox}
-use Rattle.post_board.specs.declared.board_views.OwnMailbox.TheVariants.{Resting, Filled, Emptied, Getting}
+use Rattle.post_board.proofs.Prelude.{◌≡◌, ℕ, ◌<◌, ◌≢◌, refl, sym, subst, ap, ◌∙◌, Bool, true, false, nat_lt, cond, Option, Some, put, Colour, White, Black}
+use Rattle.post_board.proofs.Prelude.{Token, At, Over, Told, Place, vacant, place, put_place, withdraw, told_late, HereFits, Sign, resting, serving, TableState}
+use Rattle.post_board.proofs.Prelude.{Rule, OwnFits, asked_of, mail_of, serves, signs_in, slots_in, token_in, told_at, noted, after_ask, after_look}
+use Rattle.post_board.proofs.Prelude.{after_taking, after_post, after_refusing, after_fetch, after_rest, heard_at, after_pass, after_restart, after_conclude}
+use Rattle.post_board.proofs.Prelude.{after_halt, halt_seen, after_stop, after_stops, IsNone, MailboxTurns, RingTurns, HaltTurns, Known, OwnMailbox, Resting}
+use Rattle.post_board.proofs.Prelude.{Filled, Emptied, Getting}
+use Rattle.post_board.specs.BoardRule.{place_of, told_of}
 use Rattle.post_board.proofs.MailboxLemmas.{not_self}
 use Rattle.post_board.proofs.RingLemmas as Turns
 use Rattle.post_board.proofs.Sheets.{places, put_one, seen_own, place_at}

@@ -1,9 +1,7 @@
 -- The words of a board are read back as what was written.
-use Rattle.std.proofs.Common.{◌≡◌, ℕ, ◌+◌, ◌-◌, ◌*◌, ◌/◌, ◌%◌, ◌==◌, ◌<◌, refl, ap, ◌∙◌, arith, Bool, false, cond, ne_eqb}
-use Rattle.ring_core.specs.declared.states.Colour.TheVariants.{White, Black}
-use Rattle.ring_core.specs.declared.states.Token.{Token}
-use Rattle.ring_core.specs.declared.states.Token.TheVariants.{At, Over}
-use Rattle.post_board.specs.Words.{Sign, resting, asking, serving, full, fetching, emptied, word_of, sign_by, sign, word_of_token, token_read}
+use Rattle.post_board.proofs.Prelude.{◌≡◌, ℕ, ◌+◌, ◌-◌, ◌*◌, ◌/◌, ◌%◌, ◌==◌, ◌<◌, refl, ap, ◌∙◌, arith, Bool, false, cond, ne_eqb, White, Black, Token, At}
+use Rattle.post_board.proofs.Prelude.{Over, Sign, resting, asking, serving, full, fetching, emptied, word_of, sign_by, word_of_token}
+use Rattle.post_board.specs.Words.{sign, token_read}
 
 reads_kind : (kind r : ℕ) → kind < 8 → sign (8 * r + kind) ≡ sign_by kind r
 unfolding sign

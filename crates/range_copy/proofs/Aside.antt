@@ -1,28 +1,11 @@
 -- The targets of large files are no sources, no parents of targets, and no other entry's targets.
-use Rattle.std.proofs.Common.{◌≡◌, ℕ, zero, suc, Bool, true, false, cond, ◌||◌, List, [], ◌∷◌, ◌++◌, map}
-use Rattle.std.proofs.Common.{Some, None, refl, ap, ◌∙◌, sym, subst, nat_eq, slice_get}
-use Rattle.std.proofs.lemmas.Bool.{false≢true, or_parts, false_from_ne_true}
-use Rattle.std.specs.List.{AllByRecursion, list_any}
-use Rattle.std.specs.Cmp.Lexicographic.{pointwise, bytes_decides}
-use Rattle.std.specs.declared.cmp.Ordering.TheVariants.{Less}
-use Rattle.path_text.specs.Order.{is_within, path_cmp}
-use Rattle.path_text.specs.Path.{parent_of, refusal}
-use Rattle.path_text.specs.Graft.{below_of}
-use Rattle.path_text.proofs.Moved.{below_undoes_graft}
-use Rattle.path_text.proofs.Parts.{below_made}
-use Rattle.path_text.proofs.Under.{one_way}
-use Rattle.entry_pages.specs.declared.entries.Entry.{Entry}
-use Rattle.tree_copy.specs.Copying.{target_of}
-use Rattle.tree_copy.specs.Placing.{IsPair, overlap}
-use Rattle.tree_copy.specs.declared.pairs.Pair.{Pair}
-use Rattle.tree_copy.proofs.Ends.{Fine, Goes, all_at, at_of, meets, no_root, one_over, one_path}
-use Rattle.tree_copy.proofs.Comes.{weaker}
-use Rattle.tree_copy.proofs.Fits.{Ascend, once}
-use Rattle.range_copy.specs.PrivateLarge.{AreApart, is_target_of}
-use Rattle.range_copy.specs.PrivateParts.{is_large, large_of, small_of}
+use Rattle.range_copy.proofs.Prelude.{◌≡◌, ℕ, zero, suc, Bool, true, false, cond, ◌||◌, List, [], ◌∷◌, ◌++◌, map, Some, None, refl, ap, ◌∙◌, sym, subst, nat_eq}
+use Rattle.range_copy.proofs.Prelude.{slice_get, false≢true, or_parts, false_from_ne_true, AllByRecursion, list_any, pointwise, bytes_decides, Less, is_within}
+use Rattle.range_copy.proofs.Prelude.{path_cmp, parent_of, refusal, below_of, below_undoes_graft, below_made, one_way, Entry, target_of, IsPair, overlap, Pair}
+use Rattle.range_copy.proofs.Prelude.{Fine, Goes, all_at, at_of, meets, no_root, one_over, one_path, weaker, Ascend, once, AreApart, is_target_of, is_large}
+use Rattle.range_copy.proofs.Prelude.{large_of, small_of, map_get}
 use Rattle.range_copy.proofs.Fitted.{Free, Known}
 use Rattle.range_copy.proofs.Parted.{large_all, small_all}
-use Rattle.level_work.proofs.Crewed.{map_get}
 
 -- a source and a target of any two pairs are apart
 

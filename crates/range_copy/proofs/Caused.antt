@@ -1,17 +1,6 @@
 -- The evidence of the fates of both parts is that of all entries.
-use Rattle.std.proofs.Common.{◌≡◌, ℕ, Bool, List, map, ap, ◌∙◌, sym, subst}
-use Rattle.std.proofs.lemmas.List.Elements.{recursion_from_All}
-use Rattle.std.specs.List.{zip}
-use Rattle.outside.specs.Asked.{Asks, Writes}
-use Rattle.outside.specs.Writes.{Area}
-use Rattle.flat_list.specs.Spelling.{paths}
-use Rattle.entry_pages.specs.declared.entries.Entry.{Entry}
-use Rattle.level_work.specs.declared.items.Fate.{Fate}
-use Rattle.tree_copy.specs.Causes.{HasCause, HaveCauses}
-use Rattle.tree_copy.specs.Copying.{treated}
-use Rattle.tree_copy.specs.declared.pairs.Pair.{Pair}
-use Rattle.range_copy.specs.PrivateLarge.{AreRows}
-use Rattle.range_copy.specs.PrivateParts.{large_of, marks_of, merged, small_of}
+use Rattle.range_copy.proofs.Prelude.{◌≡◌, ℕ, Bool, List, map, ap, ◌∙◌, sym, subst, recursion_from_All, zip, Asks, Writes, Area, paths, Entry, Fate, HasCause}
+use Rattle.range_copy.proofs.Prelude.{HaveCauses, treated, Pair, AreRows, large_of, marks_of, merged, small_of}
 use Rattle.range_copy.proofs.Rows.{Row, Told, merged_rows, rows_told, told_rows}
 
 module _ {R S G : Type 0} (asks : Asks R) (gives : Writes S) (own : Writes G) (area : G → Area) (count : G → ℕ) (list : List Entry) (pairs : List Pair)

@@ -1,16 +1,9 @@
 -- A law of copies: the entries of two parts, whose targets stand apart, copied one part after the other, are copied as all of them are at once.
 -- It speaks of the entries, their targets and the maps alone.
-use Rattle.std.proofs.Common.{◌≡◌, ◌⊎◌, ℕ, true, false, cond, List, [], ◌∷◌, Option, IfSome}
-use Rattle.std.proofs.Common.{refl, ◌∙◌, sym, subst}
-use Rattle.std.specs.FinMap.{get}
-use Rattle.std.specs.List.{AllByRecursion}
-use Rattle.outside.specs.Tree.{Files, Node}
-use Rattle.entry_pages.specs.declared.entries.Entry.{Entry}
-use Rattle.level_work.specs.declared.items.Fate.{Fate}
+use Rattle.range_copy.proofs.Prelude.{◌≡◌, ◌⊎◌, ℕ, true, false, cond, List, [], ◌∷◌, Option, IfSome, refl, ◌∙◌, sym, subst, get, AllByRecursion, Files, Node}
+use Rattle.range_copy.proofs.Prelude.{Entry, Fate, IsCopied, IsCopyOf, IsLeft, clashes, due, early, is_untold, may_fail, or_else, target_of, Pair, AreRows}
+use Rattle.range_copy.proofs.Prelude.{SameButFor, is_target_of}
 use Rattle.level_work.specs.declared.items.Fate.TheVariants as fate
-use Rattle.tree_copy.specs.Copying.{IsCopied, IsCopyOf, IsLeft, clashes, due, early, is_untold, may_fail, or_else, target_of}
-use Rattle.tree_copy.specs.declared.pairs.Pair.{Pair}
-use Rattle.range_copy.specs.PrivateLarge.{AreRows, SameButFor, is_target_of}
 use Rattle.range_copy.proofs.Rows.{Row, rows_with}
 
 -- what an entry's copy means depends on its source before, and on its target before and after

@@ -1,17 +1,9 @@
 -- Failures of readers and of spans are counted.
-use Rattle.std.proofs.Common.{◌≡◌, ◌≢◌, ◌⊎◌, inl, inr, ℕ, zero, suc, ◌+◌, ◌≤◌, List, [], ◌∷◌, ◌++◌, map, refl, ap, ◌∙◌, sym, subst, arith, append-nil}
-use Rattle.std.specs.Prelude.{Result, IfOk}
-use Rattle.std.proofs.lemmas.List.Sums.{sum_by-append, sum_by-cons}
-use Rattle.std.specs.List.{sum_by}
-use Rattle.outside.specs.Count.{RoseBy, capped}
-use Rattle.range_copy.specs.PrivateFilling.{HasCounted, span_of, spans_of}
-use Rattle.range_copy.specs.PrivateTurns.{AreBlamed, AreDone, AreFresh, came_of, faults_of, hand_of, outcome_of, reader_faults}
-use Rattle.range_copy.specs.declared.fillers.Filler.{Filler}
-use Rattle.range_copy.specs.declared.filled.Filled.{Filled}
+use Rattle.range_copy.proofs.Prelude.{◌≡◌, ◌≢◌, ◌⊎◌, inl, inr, ℕ, zero, suc, ◌+◌, ◌≤◌, List, [], ◌∷◌, ◌++◌, map, refl, ap, ◌∙◌, sym, subst, arith, append-nil}
+use Rattle.range_copy.proofs.Prelude.{Result, IfOk, sum_by-append, sum_by-cons, sum_by, RoseBy, capped, HasCounted, span_of, spans_of, AreBlamed, AreDone}
+use Rattle.range_copy.proofs.Prelude.{AreFresh, came_of, faults_of, hand_of, outcome_of, reader_faults, Filler, Filled, Came, RangeError}
 use Rattle.range_copy.specs.declared.filled.Filled.TheVariants as filled
-use Rattle.range_copy.specs.declared.came.Came.{Came}
 use Rattle.range_copy.specs.declared.came.Came.TheVariants as came
-use Rattle.range_copy.specs.declared.cutting.RangeError.{RangeError}
 use Rattle.range_copy.proofs.Outcomes.{outcome_rest}
 use Rattle.range_copy.proofs.Worked.{Paired, by_hands}
 

@@ -1,15 +1,10 @@
 -- A turn: each filler gives its span away and gets the next one.
-use Rattle.std.proofs.Common.{◌≡◌, ℕ, zero, suc, ◌+◌, ◌<◌, ◌≤◌, List, [], ◌∷◌, ◌++◌, map, length, take, drop, Option, Some, None, refl, ap, ◌∙◌, sym, subst}
-use Rattle.std.proofs.Common.{arith, slice_get, append_assoc, append-nil, length-append}
-use Rattle.std.specs.Prelude.{reverse, slice_set, IfSome}
-use Rattle.std.proofs.lemmas.List.{drop-drop, map-append, reverse-append, take_all, drop_all}
-use Rattle.outside.specs.Spans.{Piece}
-use Rattle.range_copy.specs.PrivateFilling.{AreLoads, IsLoad, IsReady, loads_of, span_of, spans_left, spans_of}
-use Rattle.range_copy.specs.PrivateTurns.{AreReady, IsTurn, hand_of}
-use Rattle.range_copy.specs.declared.fillers.Filler.{Filler}
-use Rattle.range_copy.specs.declared.loads.Load.{Load}
+use Rattle.range_copy.proofs.Prelude.{◌≡◌, ℕ, zero, suc, ◌+◌, ◌<◌, ◌≤◌, List, [], ◌∷◌, ◌++◌, map, length, take, drop, Option, Some, None, refl, ap, ◌∙◌, sym}
+use Rattle.range_copy.proofs.Prelude.{subst, arith, slice_get, append_assoc, append-nil, length-append, reverse, slice_set, drop-drop, map-append}
+use Rattle.range_copy.proofs.Prelude.{reverse-append, take_all, drop_all, Piece, AreLoads, IsLoad, IsReady, loads_of, span_of, spans_left, spans_of, AreReady}
+use Rattle.range_copy.proofs.Prelude.{IsTurn, hand_of, Filler, Load, split_drop_suc, map_set}
+use Rattle.std.specs.Prelude.{IfSome}
 use Rattle.range_copy.proofs.Loaded.{all_apart, all_push}
-use Rattle.level_work.proofs.Giving.{split_drop_suc, map_set}
 
 -- one place of a list is written
 

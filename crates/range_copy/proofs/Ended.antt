@@ -1,12 +1,6 @@
 -- A file that stands empty can be lent, and an outcome means the same by another name.
-use Rattle.std.proofs.Common.{◌≡◌, ℕ, false, not, List, [], Option, Some, None, IfSome, ap, ◌∙◌, sym, subst}
-use Rattle.std.specs.Prelude.{Result, IfOk, IsTrue}
-use Rattle.std.specs.FinMap.{get}
-use Rattle.outside.specs.Spans.{IsEmptyFile}
-use Rattle.outside.specs.Tree.{Files, content, is_file, is_root}
-use Rattle.outside.specs.Writes.{Area, is_open, new_file, nothing_lent}
-use Rattle.range_copy.specs.declared.came.Came.{Came}
-use Rattle.range_copy.specs.declared.cutting.RangeError.{RangeError}
+use Rattle.range_copy.proofs.Prelude.{◌≡◌, ℕ, false, not, List, [], Option, Some, None, IfSome, ap, ◌∙◌, sym, subst, Result, IfOk, IsTrue, get, IsEmptyFile}
+use Rattle.range_copy.proofs.Prelude.{Files, content, is_file, is_root, Area, is_open, new_file, nothing_lent, Came, RangeError}
 
 pub open_now : (area : Area) (p : List ℕ) → area ≡ nothing_lent → is_root p ≡ false → IsTrue (is_open area p)
 open_now area p e r = ap (λ a. is_open a p) e ∙ ap not r

@@ -1,39 +1,15 @@
 -- The small entries of a list fit the tree as all of them do, and where their copy is done the large ones can be made.
-use Rattle.std.proofs.Common.{◌≡◌, ◌⊎◌, inl, inr, ℕ, Bool, true, false, not, cond, ◌||◌, ◌&&◌, List, [], ◌∷◌, map}
-use Rattle.std.proofs.Common.{Option, Some, None, IfSome, refl, ap, ◌∙◌, sym, subst, nat_eq, is_some}
-use Rattle.std.proofs.lemmas.Bool.{false≢true, or_parts, false_from_ne_true}
-use Rattle.std.proofs.lemmas.List.Elements.{All-from_recursion, recursion_from_All}
-use Rattle.std.specs.FinMap.{get}
-use Rattle.std.specs.List.{All, AllByRecursion, list_any, zip}
-use Rattle.std.specs.Option.{option_map}
-use Rattle.std.specs.Cmp.Lexicographic.{pointwise, bytes_decides}
-use Rattle.path_text.specs.Graft.{ParentMovesToo}
-use Rattle.path_text.specs.Order.{IsPreorder, ParentIsOver, UnderIsContiguous, is_under, is_within}
-use Rattle.path_text.specs.Path.{parent_of, refusal}
-use Rattle.outside.specs.Parts.{UnderDirectories}
-use Rattle.outside.specs.Tree.{Files, IsTree, Node, Body, dir, file, link, other, is_dir, kind_of, link_at, stat_of}
+use Rattle.range_copy.proofs.Prelude.{◌≡◌, ◌⊎◌, inl, inr, ℕ, Bool, true, false, not, cond, ◌||◌, ◌&&◌, List, [], ◌∷◌, map, Option, Some, None, IfSome, refl, ap}
+use Rattle.range_copy.proofs.Prelude.{◌∙◌, sym, subst, nat_eq, is_some, false≢true, or_parts, false_from_ne_true, All-from_recursion, recursion_from_All, get}
+use Rattle.range_copy.proofs.Prelude.{All, AllByRecursion, list_any, zip, option_map, pointwise, bytes_decides, ParentMovesToo, IsPreorder, ParentIsOver}
+use Rattle.range_copy.proofs.Prelude.{UnderIsContiguous, is_under, is_within, parent_of, refusal, UnderDirectories, Files, IsTree, Node, Body, dir, file, link}
+use Rattle.range_copy.proofs.Prelude.{other, is_dir, kind_of, link_at, stat_of, Stat, is_kind, paths, Entry, Fate, is_done, FitsTree, IsCopied, IsCopyOf}
+use Rattle.range_copy.proofs.Prelude.{clashes, due, early, is_target, is_untold, may_fail, or_else, target_of, treated, Pair, Fine, Goes, goes, told_dir}
+use Rattle.range_copy.proofs.Prelude.{told_there, done_is, weaker, together, Ascend, is_target_of, large_of, small_of, is_so}
 use Rattle.outside.specs.declared.trees.Kind.TheVariants as kind
-use Rattle.outside.specs.declared.trees.Stat.{Stat}
-use Rattle.entry_pages.specs.Entries.{is_kind}
-use Rattle.flat_list.specs.Spelling.{paths}
-use Rattle.entry_pages.specs.declared.entries.Entry.{Entry}
-use Rattle.level_work.specs.declared.items.Fate.{Fate}
 use Rattle.level_work.specs.declared.items.Fate.TheVariants as fate
-use Rattle.level_work.specs.Counts.{is_done}
-use Rattle.tree_copy.specs.Copying.{FitsTree, IsCopied, IsCopyOf, clashes, due, early}
-use Rattle.tree_copy.specs.Copying.{is_target, is_untold, may_fail, or_else, target_of, treated}
-use Rattle.tree_copy.specs.declared.pairs.Pair.{Pair}
-use Rattle.tree_copy.proofs.Ends.{Fine, Goes, goes}
-use Rattle.tree_copy.proofs.Fits.{told_dir, told_there}
-use Rattle.tree_copy.proofs.Copiers.{done_is}
-use Rattle.tree_copy.proofs.Comes.{weaker}
-use Rattle.tree_copy.proofs.Copies.{together}
-use Rattle.tree_copy.proofs.Fits.{Ascend}
-use Rattle.range_copy.specs.PrivateLarge.{is_target_of}
-use Rattle.range_copy.specs.PrivateParts.{large_of, small_of}
 use Rattle.range_copy.proofs.Parted.{large_all, none_under, over_target, small_all, target_in_parts}
 use Rattle.range_copy.proofs.Parted.{treated_small}
-use Rattle.flat_list.proofs.Decoded.{is_so}
 
 -- what is known of each entry
 abbrev pub Known : List Pair → Entry → Type 0

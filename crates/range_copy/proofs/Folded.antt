@@ -1,28 +1,11 @@
 -- The large files, copied one after the other.
-use Rattle.std.proofs.Common.{◌≡◌, ℕ, zero, suc, ◌+◌, ◌*◌, ◌<◌, ◌≤◌, Bool, true, false, cond, ◌||◌, List, [], ◌∷◌, ◌++◌}
-use Rattle.std.proofs.Common.{length, take, Option, Some, None, IfSome}
-use Rattle.std.proofs.Common.{refl, ap, ◌∙◌, sym, subst, arith, nat_eq, get_or, is_some, slice_get, length-append}
-use Rattle.std.proofs.lemmas.Bool.{false≢true, or_parts, false_from_ne_true}
-use Rattle.std.proofs.lemmas.Slice.Zip.{all_zipped_more}
-use Rattle.std.proofs.lemmas.List.Folds.{list_any-append}
-use Rattle.std.proofs.lemmas.List.Sums.{sum_by-cons}
-use Rattle.std.proofs.lemmas.Option.{slice_get-get_or}
-use Rattle.std.specs.List.{AllByRecursion, count_by, list_any, sum_by, zip}
-use Rattle.std.specs.Cmp.Lexicographic.{pointwise}
-use Rattle.path_text.specs.Path.{parent_of}
-use Rattle.outside.specs.Count.{RoseBy}
-use Rattle.outside.specs.Tree.{Files, content, is_dir, is_file}
-use Rattle.outside.specs.Writes.{SameBut}
-use Rattle.entry_pages.specs.declared.entries.Entry.{Entry}
-use Rattle.level_work.specs.Counts.{is_failed, is_done}
-use Rattle.level_work.specs.declared.items.Fate.{Fate}
-use Rattle.level_work.proofs.Working.{both_told}
-use Rattle.tree_copy.specs.Copying.{IsCopied, IsEarly, target_of}
-use Rattle.tree_copy.specs.declared.pairs.Pair.{Pair}
-use Rattle.tree_copy.proofs.Ends.{at_of}
-use Rattle.range_copy.specs.PrivateLarge.{AreApart, AreFailed, AreRows, CanMake, IsRow, SameButFor, bytes_over, gain, is_target_of}
+use Rattle.range_copy.proofs.Prelude.{◌≡◌, ℕ, zero, suc, ◌+◌, ◌*◌, ◌<◌, ◌≤◌, Bool, true, false, cond, ◌||◌, List, [], ◌∷◌, ◌++◌, length, take, Option, Some}
+use Rattle.range_copy.proofs.Prelude.{None, IfSome, refl, ap, ◌∙◌, sym, subst, arith, nat_eq, get_or, is_some, slice_get, length-append, false≢true, or_parts}
+use Rattle.range_copy.proofs.Prelude.{false_from_ne_true, all_zipped_more, list_any-append, sum_by-cons, slice_get-get_or, AllByRecursion, count_by, list_any}
+use Rattle.range_copy.proofs.Prelude.{sum_by, zip, pointwise, parent_of, RoseBy, Files, content, is_dir, is_file, SameBut, Entry, is_failed, is_done, Fate}
+use Rattle.range_copy.proofs.Prelude.{both_told, IsCopied, IsEarly, target_of, Pair, at_of, AreApart, AreFailed, AreRows, CanMake, IsRow, SameButFor}
+use Rattle.range_copy.proofs.Prelude.{bytes_over, gain, is_target_of, mapped}
 use Rattle.range_copy.proofs.Composed.{StandApart, both_copied}
-use Rattle.tree_copy.proofs.Puts.{mapped}
 use Rattle.range_copy.proofs.Rows.{Row, Told}
 
 -- what is so at every place before one

@@ -1,13 +1,7 @@
 -- Spans that have their ranges, one behind the other, are the file.
-use Rattle.std.proofs.Common.{◌≡◌, ℕ, ◌-◌, true, List, [], ◌∷◌, ◌++◌, map, length, take, drop, Option, Some, None, IfSome, refl, ap}
-use Rattle.std.proofs.Common.{◌∙◌, is_some}
-use Rattle.std.proofs.lemmas.Bool.{false≢true}
-use Rattle.std.specs.FinMap.{get}
-use Rattle.std.specs.List.{AllByRecursion}
-use Rattle.outside.specs.Tree.{Files, content}
-use Rattle.outside.specs.Spans.{Piece, are_cuts, joined_bytes, pieces, pieces_from, told_bytes}
-use Rattle.range_copy.specs.PrivateFilling.{HasRange}
-use Rattle.range_copy.specs.Ranges.{end_of, joined, ranges_from}
+use Rattle.range_copy.proofs.Prelude.{◌≡◌, ℕ, ◌-◌, true, List, [], ◌∷◌, ◌++◌, map, length, take, drop, Option, Some, None, IfSome, refl, ap, ◌∙◌, is_some}
+use Rattle.range_copy.proofs.Prelude.{false≢true, get, AllByRecursion, Files, content, Piece, are_cuts, joined_bytes, pieces, pieces_from, told_bytes, HasRange}
+use Rattle.range_copy.proofs.Prelude.{end_of, joined, ranges_from}
 use Rattle.range_copy.proofs.Cover.{cover}
 
 pub head_of : {X : Type 0} (x y : X) (xs ys : List X) → (x ∷ xs) ≡ (y ∷ ys) → x ≡ y

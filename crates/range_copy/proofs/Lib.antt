@@ -1,3 +1,4 @@
+mod Prelude
 pub mod Aside
 pub mod Caused
 pub mod Composed

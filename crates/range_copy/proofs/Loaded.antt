@@ -1,16 +1,8 @@
 -- Spans with their places between two cuts.
-use Rattle.std.proofs.Common.{◌≡◌, ℕ, zero, suc, ◌+◌, ◌-◌, ◌≤◌, true, List, [], ◌∷◌, ◌++◌, map, length, Some, refl, ap, ◌∙◌, sym, arith}
-use Rattle.std.proofs.Common.{slice_get, append_assoc}
-use Rattle.std.specs.Prelude.{reverse, nat_lt}
-use Rattle.std.specs.List.{AllByRecursion}
-use Rattle.std.proofs.lemmas.Bool.{false≢true, ltb-true, and_parts}
-use Rattle.std.proofs.lemmas.List.{length-map, map-append, reverse-append}
-use Rattle.outside.specs.Spans.{Piece, are_cuts, ascends_above, pieces, pieces_from}
-use Rattle.range_copy.specs.PrivateFilling.{IsLoad, spans_left}
-use Rattle.range_copy.specs.Ranges.{end_of, last_of}
-use Rattle.range_copy.specs.declared.loads.Load.{Load}
+use Rattle.range_copy.proofs.Prelude.{◌≡◌, ℕ, zero, suc, ◌+◌, ◌-◌, ◌≤◌, true, List, [], ◌∷◌, ◌++◌, map, length, Some, refl, ap, ◌∙◌, sym, arith, slice_get}
+use Rattle.range_copy.proofs.Prelude.{append_assoc, reverse, nat_lt, AllByRecursion, false≢true, ltb-true, and_parts, length-map, map-append, reverse-append}
+use Rattle.range_copy.proofs.Prelude.{Piece, are_cuts, ascends_above, pieces, pieces_from, IsLoad, spans_left, end_of, last_of, Load, same_some}
 use Rattle.range_copy.proofs.Cover.{last_above}
-use Rattle.level_work.proofs.Working.{same_some}
 
 -- all of a list and one more, and back
 

@@ -1,24 +1,10 @@
 -- An empty file that is made at a path, in place of none or of a file.
-use Rattle.std.proofs.Common.{◌≡◌, ℕ, Bool, true, false, not, cond, ◌||◌, ◌&&◌, List, [], Option, Some, None, IfSome, refl, ap, ◌∙◌}
-use Rattle.std.proofs.Common.{sym, subst, arith}
-use Rattle.std.proofs.Common.{is_some, length, nat_eq}
-use Rattle.std.specs.Prelude.{Result, Ok, Err, IfOk, IsTrue}
-use Rattle.std.proofs.lemmas.Bool.{false≢true}
-use Rattle.std.specs.FinMap.{get, insert}
-use Rattle.std.specs.Cmp.Lexicographic.{pointwise, bytes_decides}
-use Rattle.path_text.specs.Path.{parent_of, refusal}
-use Rattle.path_text.proofs.Parents.{parent_under}
-use Rattle.path_text.proofs.Within.{under_longer}
-use Rattle.outside.specs.Tree.{Files, is_dir, is_root}
-use Rattle.outside.specs.Writes.{Area, in_area, is_open, is_top, make_refusal, new_file}
+use Rattle.range_copy.proofs.Prelude.{◌≡◌, ℕ, Bool, true, false, not, cond, ◌||◌, ◌&&◌, List, [], Option, Some, None, IfSome, refl, ap, ◌∙◌, sym, subst, arith}
+use Rattle.range_copy.proofs.Prelude.{is_some, length, nat_eq, Result, Ok, Err, IfOk, IsTrue, false≢true, get, insert, pointwise, bytes_decides, parent_of}
+use Rattle.range_copy.proofs.Prelude.{refusal, parent_under, under_longer, Files, is_dir, is_root, Area, in_area, is_open, is_top, make_refusal, new_file, Gone}
+use Rattle.range_copy.proofs.Prelude.{answered, free, put_here, put_others, Came, RangeError, Leaves, MadeAs, ReplacedAs, freed, both_told}
 use Rattle.outside.specs.declared.plots.WriteError.TheVariants as write
-use Rattle.tree_copy.proofs.Places.{Gone}
-use Rattle.tree_copy.proofs.Puts.{answered, free, put_here, put_others}
-use Rattle.range_copy.specs.declared.came.Came.{Came}
 use Rattle.range_copy.specs.declared.came.Came.TheVariants as came
-use Rattle.range_copy.specs.declared.cutting.RangeError.{RangeError}
-use Rattle.range_copy.specs.PrivatePlacing.{Leaves, MadeAs, ReplacedAs, freed}
-use Rattle.level_work.proofs.Working.{both_told}
 
 pub made : (area : Area) (p : List ℕ) (t t' : Option Files) →
     IfSome t (λ files. (make_refusal area files p ≡ None) × (t' ≡ Some (insert files p (new_file [])))) →

@@ -1,14 +1,8 @@
 -- The multiples below a size, and the size, are cuts.
-use Rattle.std.proofs.Common.{◌≡◌, ℕ, zero, suc, ◌+◌, ◌-◌, ◌*◌, ◌/◌, ◌≤◌, ◌<◌, Bool, true, false, List, [], ◌∷◌, ◌++◌, length}
-use Rattle.std.proofs.Common.{refl, ap, ◌∙◌, sym, cond, arith}
-use Rattle.std.proofs.lemmas.Bool.{lt-ltb, ltb-true, ltb-false, and_from}
+use Rattle.range_copy.proofs.Prelude.{◌≡◌, ℕ, zero, suc, ◌+◌, ◌-◌, ◌*◌, ◌/◌, ◌≤◌, ◌<◌, Bool, true, false, List, [], ◌∷◌, ◌++◌, length, refl, ap, ◌∙◌, sym, cond}
+use Rattle.range_copy.proofs.Prelude.{arith, lt-ltb, ltb-true, ltb-false, and_from, suc-eq-add-one, div_below, div-mul-le_self, lt-div-mul-add, nat_lt}
+use Rattle.range_copy.proofs.Prelude.{ascends_above, are_cuts, end_of, last_of, least_step, step_of, steps_from, range_cuts}
 use Rattle.std.proofs.lemmas.List.{length-append}
-use Rattle.std.proofs.Math.Numerals.{suc-eq-add-one}
-use Rattle.std.proofs.lemmas.Nat.{div_below}
-use Rattle.std.proofs.Math.Nat.{div-mul-le_self, lt-div-mul-add}
-use Rattle.std.specs.Prelude.{nat_lt}
-use Rattle.outside.specs.Spans.{ascends_above, are_cuts}
-use Rattle.range_copy.specs.Ranges.{end_of, last_of, least_step, step_of, steps_from, range_cuts}
 
 -- how many they are
 pub length_steps : (at step n : ℕ) → length (steps_from at step n) ≡ n

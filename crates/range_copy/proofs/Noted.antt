@@ -1,23 +1,10 @@
 -- The targets of the rows that did not come to `Done`, row by row.
-use Rattle.std.proofs.Common.{◌≡◌, ℕ, zero, suc, ◌+◌, Bool, true, false, not, cond, ◌||◌, ◌&&◌, List, [], ◌∷◌, ◌++◌}
-use Rattle.std.proofs.Common.{length, take, Option, Some, None, refl, ap}
-use Rattle.std.proofs.Common.{◌∙◌, sym, arith, nat_eq, slice_get}
-use Rattle.std.proofs.lemmas.List.Folds.{list_any-append}
-use Rattle.std.specs.Prelude.{nat_le, Result, Ok, Err, OnOk}
-use Rattle.std.specs.List.{list_any}
-use Rattle.std.specs.Option.{option_map}
-use Rattle.std.specs.Cmp.Lexicographic.{pointwise}
-use Rattle.path_text.specs.Graft.{below_of, grafted}
-use Rattle.path_text.specs.Order.{is_within}
-use Rattle.level_work.specs.declared.items.Fate.{Fate}
-use Rattle.level_work.specs.Counts.{is_done}
-use Rattle.tree_copy.specs.Copying.{target_of}
-use Rattle.tree_copy.specs.declared.pairs.Pair.{Pair}
-use Rattle.range_copy.specs.PrivateLarge.{AreFailed, failed_at, fitting_target, has_path}
+use Rattle.range_copy.proofs.Prelude.{◌≡◌, ℕ, zero, suc, ◌+◌, Bool, true, false, not, cond, ◌||◌, ◌&&◌, List, [], ◌∷◌, ◌++◌, length, take, Option, Some, None}
+use Rattle.range_copy.proofs.Prelude.{refl, ap, ◌∙◌, sym, arith, nat_eq, slice_get, list_any-append, nat_le, Result, Ok, Err, OnOk, list_any, option_map}
+use Rattle.range_copy.proofs.Prelude.{pointwise, below_of, grafted, is_within, Fate, is_done, target_of, Pair, AreFailed, failed_at, fitting_target, has_path}
+use Rattle.range_copy.proofs.Prelude.{and_false, turn}
 use Rattle.range_copy.proofs.Rows.{Row}
 use Rattle.range_copy.proofs.Tried.{fits}
-use Rattle.path_text.proofs.Told.{and_false}
-use Rattle.level_work.proofs.Sets.{turn}
 
 or_turn : (a b : Bool) → (a || b) ≡ (b || (a || false))
 or_turn true true = refl

@@ -1,9 +1,5 @@
 -- The outcome of all fillers is that of the first whose work has not come to `Done`.
-use Rattle.std.proofs.Common.{◌≡◌, List, [], ◌∷◌, refl}
-use Rattle.std.specs.List.{AllByRecursion}
-use Rattle.range_copy.specs.PrivateTurns.{AreDone, first_of, outcome_of}
-use Rattle.range_copy.specs.declared.fillers.Filler.{Filler}
-use Rattle.range_copy.specs.declared.filled.Filled.{Filled}
+use Rattle.range_copy.proofs.Prelude.{◌≡◌, List, [], ◌∷◌, refl, AllByRecursion, AreDone, first_of, outcome_of, Filler, Filled}
 use Rattle.range_copy.specs.declared.filled.Filled.TheVariants as filled
 
 first_by : (P : Filled → Type 0) (f rest : Filled) → P f → P rest → P (first_of f rest)

@@ -1,33 +1,13 @@
 -- The parts of a list: nothing stands under a large file, and no target of a large file is another entry's, or the parent of one.
-use Rattle.std.proofs.Common.{◌≡◌, ◌≢◌, ⊎_elim, ℕ, Bool, true, false, not, cond, ◌||◌, ◌&&◌, List, [], ◌∷◌, map}
-use Rattle.std.proofs.Common.{length, Option, Some, None, refl, ap, ◌∙◌, sym, subst, arith, nat_eq, is_some}
-use Rattle.std.proofs.lemmas.Bool.{false≢true, not-true, false_from_ne_true}
-use Rattle.std.proofs.lemmas.List.Elements.{All-from_recursion, recursion_from_All}
-use Rattle.std.specs.List.{AllByRecursion, list_any}
+use Rattle.range_copy.proofs.Prelude.{◌≡◌, ◌≢◌, ⊎_elim, ℕ, Bool, true, false, not, cond, ◌||◌, ◌&&◌, List, [], ◌∷◌, map, length, Option, Some, None, refl, ap}
+use Rattle.range_copy.proofs.Prelude.{◌∙◌, sym, subst, arith, nat_eq, is_some, false≢true, not-true, false_from_ne_true, All-from_recursion, recursion_from_All}
+use Rattle.range_copy.proofs.Prelude.{AllByRecursion, list_any, pointwise, bytes_decides, Less, ParentMovesToo, below_of, grafted, IsPreorder, ParentIsOver}
+use Rattle.range_copy.proofs.Prelude.{UnderIsContiguous, is_under, is_within, path_cmp, parent_of, refusal, grafted_itself, parent_under, one_way}
+use Rattle.range_copy.proofs.Prelude.{same_or_under, some_bytes, under_longer, is_root, Stat, is_of, paths, Entry, CanCopy, is_target, target_of, treated, Pair}
+use Rattle.range_copy.proofs.Prelude.{IsPair, Fine, Goes, all_at, no_root, one_path, target_by, under_kept, together, Ascend, ascends, is_target_of, exceeds}
+use Rattle.range_copy.proofs.Prelude.{has_under, is_large, large_of, small_of}
 use Rattle.std.specs.List.Sorted.{IsStrictlySortedBy}
-use Rattle.std.specs.Cmp.Lexicographic.{pointwise, bytes_decides}
-use Rattle.std.specs.declared.cmp.Ordering.TheVariants.{Less}
-use Rattle.path_text.specs.Graft.{ParentMovesToo, below_of, grafted}
-use Rattle.path_text.specs.Order.{IsPreorder, ParentIsOver, UnderIsContiguous, is_under, is_within, path_cmp}
-use Rattle.path_text.specs.Path.{parent_of, refusal}
-use Rattle.path_text.proofs.Carried.{grafted_itself}
-use Rattle.path_text.proofs.Parents.{parent_under}
-use Rattle.path_text.proofs.Under.{one_way}
-use Rattle.path_text.proofs.Within.{same_or_under, some_bytes, under_longer}
-use Rattle.outside.specs.Tree.{is_root}
 use Rattle.outside.specs.declared.trees.Kind.TheVariants as kind
-use Rattle.outside.specs.declared.trees.Stat.{Stat}
-use Rattle.entry_pages.specs.Entries.{is_of}
-use Rattle.flat_list.specs.Spelling.{paths}
-use Rattle.entry_pages.specs.declared.entries.Entry.{Entry}
-use Rattle.tree_copy.specs.Copying.{CanCopy, is_target, target_of, treated}
-use Rattle.tree_copy.specs.declared.pairs.Pair.{Pair}
-use Rattle.tree_copy.specs.Placing.{IsPair}
-use Rattle.tree_copy.proofs.Ends.{Fine, Goes, all_at, no_root, one_path, target_by, under_kept}
-use Rattle.tree_copy.proofs.Copies.{together}
-use Rattle.tree_copy.proofs.Fits.{Ascend, ascends}
-use Rattle.range_copy.specs.PrivateLarge.{is_target_of}
-use Rattle.range_copy.specs.PrivateParts.{exceeds, has_under, is_large, large_of, small_of}
 
 -- what is so of all entries is so of each part
 

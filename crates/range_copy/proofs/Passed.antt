@@ -1,10 +1,6 @@
 -- A list is parted entry by entry, and the rows of its parts are merged row by row.
-use Rattle.std.proofs.Common.{◌≡◌, ℕ, ◌≤◌, false, not, ◌&&◌, List, [], ◌++◌}
-use Rattle.std.proofs.Common.{length, drop, Option, Some, None, refl, ap, ◌∙◌, sym, subst}
-use Rattle.std.proofs.Common.{append-nil, drop_of_length-le}
-use Rattle.entry_pages.specs.declared.entries.Entry.{Entry}
-use Rattle.range_copy.specs.PrivateParts.{ArePartsOf, exceeds, has_under, held_of, is_large, is_over, large_of, marks_of, small_of}
-use Rattle.range_copy.specs.declared.parting.Parts.{Parts}
+use Rattle.range_copy.proofs.Prelude.{◌≡◌, ℕ, ◌≤◌, false, not, ◌&&◌, List, [], ◌++◌, length, drop, Option, Some, None, refl, ap, ◌∙◌, sym, subst, append-nil}
+use Rattle.range_copy.proofs.Prelude.{drop_of_length-le, Entry, ArePartsOf, exceeds, has_under, held_of, is_large, is_over, large_of, marks_of, small_of, Parts}
 
 -- whether an entry is large
 

@@ -1,30 +1,13 @@
 -- A file that was out in spans is back: it has the bytes of the source, and nothing else has changed.
-use Rattle.std.proofs.Common.{◌≡◌, ℕ, Bool, true, false, not, cond, ◌||◌, List, [], ◌∷◌, ◌++◌, map, Option, Some, None, IfSome}
-use Rattle.std.proofs.Common.{refl, ap, ◌∙◌, sym, subst, arith, is_some, nat_eq}
-use Rattle.std.specs.Prelude.{IfOk}
-use Rattle.std.proofs.lemmas.Bool.{false≢true}
-use Rattle.std.proofs.lemmas.List.Elements.{All-from_recursion}
-use Rattle.std.specs.FinMap.{get, get-retain_keys}
-use Rattle.std.specs.List.{All, AllByRecursion}
-use Rattle.std.specs.Option.{option_map}
-use Rattle.std.specs.Cmp.Lexicographic.{pointwise}
-use Rattle.path_text.specs.Order.{is_under}
-use Rattle.path_text.specs.Path.{refusal}
-use Rattle.path_text.specs.Total.{path_cmp_same}
-use Rattle.outside.specs.Lease.{in_tops, kept}
-use Rattle.outside.specs.Parts.{UnderDirectories}
-use Rattle.outside.specs.Spans.{IsRejoined, Piece, are_cuts, area_cut, cuts_in, joined_bytes, pieces, zeros_of}
-use Rattle.outside.specs.Tree.{Files, IsTree, Node, Body, dir, file, link, other, content, is_dir, is_file}
-use Rattle.outside.specs.Writes.{Area, SameBut, new_file, nothing_lent}
-use Rattle.range_copy.specs.Large.{HasBytes, IsSource, SpansComeBack}
-use Rattle.range_copy.specs.PrivateFilling.{HasRange, IsShort}
-use Rattle.range_copy.specs.PrivateTurns.{FilledAs, came_of}
-use Rattle.range_copy.specs.Ranges.{end_of, joined, ranges_of}
-use Rattle.range_copy.specs.declared.filled.Filled.{Filled}
+use Rattle.range_copy.proofs.Prelude.{◌≡◌, ℕ, Bool, true, false, not, cond, ◌||◌, List, [], ◌∷◌, ◌++◌, map, Option, Some, None, IfSome, refl, ap, ◌∙◌, sym}
+use Rattle.range_copy.proofs.Prelude.{subst, arith, is_some, nat_eq, IfOk, false≢true, All-from_recursion, get, get-retain_keys, All, AllByRecursion}
+use Rattle.range_copy.proofs.Prelude.{option_map, pointwise, is_under, refusal, path_cmp_same, in_tops, kept, UnderDirectories, IsRejoined, Piece, are_cuts}
+use Rattle.range_copy.proofs.Prelude.{area_cut, cuts_in, joined_bytes, pieces, zeros_of, Files, IsTree, Node, Body, dir, file, link, other, content, is_dir}
+use Rattle.range_copy.proofs.Prelude.{is_file, Area, SameBut, new_file, nothing_lent, HasBytes, IsSource, SpansComeBack, HasRange, IsShort, FilledAs, came_of}
+use Rattle.range_copy.proofs.Prelude.{end_of, joined, ranges_of, Filled, at_itself}
 use Rattle.range_copy.specs.declared.filled.Filled.TheVariants as filled
 use Rattle.range_copy.proofs.Cover.{cover}
 use Rattle.range_copy.proofs.Joined.{joined_all}
-use Rattle.outside.proofs.Saved.{at_itself}
 
 -- nothing stands under what is no directory
 

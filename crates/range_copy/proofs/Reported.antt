@@ -1,22 +1,8 @@
 -- The parts of a list, each copied, as they are seen once they were told: what the copies of both need, and what is so of all entries.
-use Rattle.std.proofs.Common.{◌≡◌, ℕ, ◌+◌, Bool, true, List, map, Option, IfSome}
-use Rattle.std.proofs.Common.{ap, ◌∙◌, sym, subst, cond, is_some}
-use Rattle.std.specs.Prelude.{Result, Ok, Err, IfOk}
-use Rattle.std.specs.List.{All, AllByRecursion, count_by, list_any}
-use Rattle.path_text.specs.Order.{is_within}
-use Rattle.outside.specs.Count.{RoseBy}
-use Rattle.outside.specs.Parts.{UnderDirectories}
-use Rattle.outside.specs.Tree.{Files, IsTree}
-use Rattle.entry_pages.specs.Entries.{bytes_by}
-use Rattle.flat_list.specs.Spelling.{paths}
-use Rattle.entry_pages.specs.declared.entries.Entry.{Entry}
-use Rattle.level_work.specs.Counts.{is_failed, is_done}
-use Rattle.level_work.specs.declared.items.Fate.{Fate}
-use Rattle.tree_copy.specs.Copying.{AreEarly, CanCopy, Copied, FitsTree, IsCopied, IsEarly, SameButTargets, bytes_copied, treated}
-use Rattle.tree_copy.specs.declared.pairs.Pair.{Pair}
-use Rattle.range_copy.specs.PrivateLarge.{AreApart, AreFailed, AreRows, CanMake, SameButFor, bytes_over}
-use Rattle.range_copy.specs.PrivateParts.{exceeds, large_of, marks_of, merged, small_of}
-use Rattle.range_copy.specs.declared.folding.Tally.{Tally}
+use Rattle.range_copy.proofs.Prelude.{◌≡◌, ℕ, ◌+◌, Bool, true, List, map, Option, IfSome, ap, ◌∙◌, sym, subst, cond, is_some, Result, Ok, Err, IfOk, All}
+use Rattle.range_copy.proofs.Prelude.{AllByRecursion, count_by, list_any, is_within, RoseBy, UnderDirectories, Files, IsTree, bytes_by, paths, Entry, is_failed}
+use Rattle.range_copy.proofs.Prelude.{is_done, Fate, AreEarly, CanCopy, Copied, FitsTree, IsCopied, IsEarly, SameButTargets, bytes_copied, treated, Pair}
+use Rattle.range_copy.proofs.Prelude.{AreApart, AreFailed, AreRows, CanMake, SameButFor, bytes_over, exceeds, large_of, marks_of, merged, small_of, Tally}
 use Rattle.range_copy.proofs.Folded.{rose_both}
 use Rattle.range_copy.proofs.Rows.{Row, Told, merged_count, merged_rows, merged_sum, row_paths, rows_told}
 use Rattle.range_copy.proofs.Widened.{Given, copied_told, large_apart, large_exceed, large_sourced, makes, rest_both, rest_small, rows_early}

@@ -1,18 +1,7 @@
 -- The rows of small entries and of large files, brought together.
-use Rattle.std.proofs.Common.{◌≡◌, ℕ, ◌+◌, Bool, true, false, not, cond, ◌||◌, ◌&&◌, List, [], ◌∷◌, map, refl, ap, ◌∙◌, sym, subst, arith, nat_eq, is_some}
-use Rattle.std.proofs.lemmas.Bool.{or_parts}
-use Rattle.std.proofs.lemmas.List.Elements.{All-from_recursion}
-use Rattle.std.proofs.lemmas.List.Sums.{sum_by-cons}
-use Rattle.std.specs.List.{All, AllByRecursion, count_by, sum_by, zip}
-use Rattle.std.specs.Cmp.Lexicographic.{pointwise}
-use Rattle.flat_list.specs.Spelling.{paths}
-use Rattle.entry_pages.specs.declared.entries.Entry.{Entry}
-use Rattle.level_work.specs.declared.items.Fate.{Fate}
-use Rattle.level_work.specs.Counts.{is_done}
-use Rattle.tree_copy.specs.Copying.{target_of, treated}
-use Rattle.tree_copy.specs.declared.pairs.Pair.{Pair}
-use Rattle.range_copy.specs.PrivateLarge.{AreRows, failed_at, is_target_of}
-use Rattle.range_copy.specs.PrivateParts.{is_large, large_of, marks_of, merged, small_of}
+use Rattle.range_copy.proofs.Prelude.{◌≡◌, ℕ, ◌+◌, Bool, true, false, not, cond, ◌||◌, ◌&&◌, List, [], ◌∷◌, map, refl, ap, ◌∙◌, sym, subst, arith, nat_eq}
+use Rattle.range_copy.proofs.Prelude.{is_some, or_parts, All-from_recursion, sum_by-cons, All, AllByRecursion, count_by, sum_by, zip, pointwise, paths, Entry}
+use Rattle.range_copy.proofs.Prelude.{Fate, is_done, target_of, treated, Pair, AreRows, failed_at, is_target_of, is_large, large_of, marks_of, merged, small_of}
 use Rattle.range_copy.proofs.Parted.{has_stat, turned_off}
 
 abbrev pub Row : Type 0

@@ -1,49 +1,23 @@
 -- The evidence of the fate of a large file.
-use Rattle.std.proofs.Common.{◌≡◌, ◌≢◌, ◌⊎◌, inl, inr, ℕ, ◌+◌, ◌-◌, ◌<◌, ◌≤◌, true, List, [], ◌∷◌, ◌++◌}
-use Rattle.std.proofs.Common.{map, drop, Option, Some, None}
-use Rattle.std.proofs.Common.{refl, ap, ◌∙◌, sym, subst, arith, append-nil}
-use Rattle.std.specs.Prelude.{Result, Ok, Err, IfOk, IsTrue, nat_lt, ◌==◌}
-use Rattle.std.proofs.lemmas.Bool.{false≢true, ltb-true, and_parts}
-use Rattle.std.proofs.lemmas.List.Elements.{All-from_recursion}
-use Rattle.std.proofs.lemmas.List.Sums.{sum_by-append, sum_by-cons}
-use Rattle.std.specs.List.{AllByRecursion, sum_by}
-use Rattle.outside.specs.Asked.{Asks, Write, Writes}
+use Rattle.range_copy.proofs.Prelude.{◌≡◌, ◌≢◌, ◌⊎◌, inl, inr, ℕ, ◌+◌, ◌-◌, ◌<◌, ◌≤◌, true, List, [], ◌∷◌, ◌++◌, map, drop, Option, Some, None, refl, ap, ◌∙◌}
+use Rattle.range_copy.proofs.Prelude.{sym, subst, arith, append-nil, Result, Ok, Err, IfOk, IsTrue, nat_lt, ◌==◌, false≢true, ltb-true, and_parts}
+use Rattle.range_copy.proofs.Prelude.{All-from_recursion, sum_by-append, sum_by-cons, AllByRecursion, sum_by, Asks, Write, Writes, RoseBy, capped, Piece}
+use Rattle.range_copy.proofs.Prelude.{are_cuts, ascends_above, cuts_in, pieces, pieces_from, Area, may_change, WriteError, size_by, Entry, Fate, HasCause}
+use Rattle.range_copy.proofs.Prelude.{IsReadTo, IsWritten, LookMeans, ReadMeans, RefusalMeans, ShowsSpans, SpansFailed, WasSpanned, by_count, by_look, by_read}
+use Rattle.range_copy.proofs.Prelude.{by_refusal, by_spans, refusal_means, target_of, Pair, span_of, spans_of, fate_of, exceeds, freed, refused_as, FilledBy}
+use Rattle.range_copy.proofs.Prelude.{IsFreshBy, IsRead, AreFilledBy, AreFreshBy, AreRead, HasShown, MadeBy, PlacedBy, ReplacedBy, failures_of, AreDone}
+use Rattle.range_copy.proofs.Prelude.{AreIdle, came_of, hand_of, outcome_of, end_of, last_of, Came, RangeError, Filled, Filler, Load, all_join}
 use Rattle.outside.specs.Asked as asked
-use Rattle.outside.specs.Count.{RoseBy, capped}
-use Rattle.outside.specs.Spans.{Piece, are_cuts, ascends_above, cuts_in, pieces, pieces_from}
-use Rattle.outside.specs.Writes.{Area, may_change}
-use Rattle.outside.specs.declared.plots.WriteError.{WriteError}
 use Rattle.outside.specs.declared.plots.WriteError.TheVariants as write
 use Rattle.outside.specs.declared.trees.Kind.TheVariants as kind
-use Rattle.entry_pages.specs.Entries.{size_by}
-use Rattle.entry_pages.specs.declared.entries.Entry.{Entry}
-use Rattle.level_work.specs.declared.items.Fate.{Fate}
 use Rattle.level_work.specs.declared.items.Fate.TheVariants as fate
-use Rattle.tree_copy.specs.Causes.{HasCause, IsReadTo, IsWritten, LookMeans, ReadMeans, RefusalMeans, ShowsSpans, SpansFailed, WasSpanned}
-use Rattle.tree_copy.specs.Causes.{by_count, by_look, by_read, by_refusal, by_spans, refusal_means}
-use Rattle.tree_copy.specs.Copying.{target_of}
-use Rattle.tree_copy.specs.declared.pairs.Pair.{Pair}
-use Rattle.range_copy.specs.PrivateFilling.{span_of, spans_of}
-use Rattle.range_copy.specs.PrivateLarge.{fate_of}
-use Rattle.range_copy.specs.PrivateParts.{exceeds}
-use Rattle.range_copy.specs.PrivatePlacing.{freed, refused_as}
-use Rattle.range_copy.specs.PrivateReading.{FilledBy, IsFreshBy, IsRead}
-use Rattle.range_copy.specs.PrivateShowing.{AreFilledBy, AreFreshBy, AreRead, HasShown, MadeBy, PlacedBy, ReplacedBy, failures_of}
-use Rattle.range_copy.specs.PrivateTurns.{AreDone, AreIdle, came_of, hand_of, outcome_of}
-use Rattle.range_copy.specs.Ranges.{end_of, last_of}
-use Rattle.range_copy.specs.declared.came.Came.{Came}
 use Rattle.range_copy.specs.declared.came.Came.TheVariants as came
-use Rattle.range_copy.specs.declared.cutting.RangeError.{RangeError}
-use Rattle.range_copy.specs.declared.filled.Filled.{Filled}
 use Rattle.range_copy.specs.declared.filled.Filled.TheVariants as filled
-use Rattle.range_copy.specs.declared.fillers.Filler.{Filler}
-use Rattle.range_copy.specs.declared.loads.Load.{Load}
 use Rattle.range_copy.proofs.Counted.{rose_after}
 use Rattle.range_copy.proofs.Joined.{head_of, tail_of}
 use Rattle.range_copy.proofs.Outcomes.{outcome_by, outcome_rest}
 use Rattle.range_copy.proofs.Tried.{is_file_of}
 use Rattle.range_copy.proofs.Worked.{Paired, by_hands, idle_none}
-use Rattle.flat_list.proofs.Pieces.{all_join}
 
 -- a refusal that does not say that a node is there
 

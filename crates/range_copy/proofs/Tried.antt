@@ -1,35 +1,16 @@
 -- The fate of one large file, and what it says.
-use Rattle.std.proofs.Common.{◌≡◌, inl, inr, ℕ, ◌<◌, ◌≤◌, Bool, true, false, not, cond, ◌&&◌, List}
-use Rattle.std.proofs.Common.{length, Option, Some, None, IfSome, refl, ap}
-use Rattle.std.proofs.Common.{◌∙◌, sym, subst, arith, nat_lt}
-use Rattle.std.proofs.lemmas.Bool.{false≢true}
-use Rattle.std.proofs.lemmas.Bool.Decides.{nat_tests}
-use Rattle.std.specs.Prelude.{is_none, nat_le}
-use Rattle.std.specs.FinMap.{get}
-use Rattle.path_text.specs.Path.{parent_of, refusal}
-use Rattle.path_text.proofs.Parents.{parent_under}
-use Rattle.path_text.proofs.Within.{under_longer}
-use Rattle.outside.specs.Count.{RoseBy}
-use Rattle.outside.specs.Tree.{Body, Files, Node, content, dir, file, is_dir, is_file, is_root, kind_of, link, other}
-use Rattle.outside.specs.declared.trees.Kind.{Kind}
+use Rattle.range_copy.proofs.Prelude.{◌≡◌, inl, inr, ℕ, ◌<◌, ◌≤◌, Bool, true, false, not, cond, ◌&&◌, List, length, Option, Some, None, IfSome, refl, ap, ◌∙◌}
+use Rattle.range_copy.proofs.Prelude.{sym, subst, arith, false≢true, nat_tests, is_none, nat_le, get, parent_of, refusal, parent_under, under_longer, RoseBy}
+use Rattle.range_copy.proofs.Prelude.{Body, Files, Node, content, dir, file, is_dir, is_file, is_root, kind_of, link, other, Kind, Stat, is_kind, is_of}
+use Rattle.range_copy.proofs.Prelude.{size_by, Entry, is_failed, is_done, Fate, IsCopied, IsCopyOf, IsEarly, body_of, clashes, early, is_tried, is_untold}
+use Rattle.range_copy.proofs.Prelude.{may_fail, parent_failed, target_of, Pair, HasBytes, IsSource, in_way, AreFailed, CanMake, fate_of, fitting_target}
+use Rattle.range_copy.proofs.Prelude.{has_path, exceeds, Came, mapped}
+use Rattle.std.proofs.Common.{nat_lt}
 use Rattle.outside.specs.declared.trees.Kind.TheVariants as kind
-use Rattle.outside.specs.declared.trees.Stat.{Stat}
-use Rattle.entry_pages.specs.Entries.{is_kind, is_of, size_by}
-use Rattle.entry_pages.specs.declared.entries.Entry.{Entry}
-use Rattle.level_work.specs.Counts.{is_failed, is_done}
-use Rattle.level_work.specs.declared.items.Fate.{Fate}
 use Rattle.level_work.specs.declared.items.Fate.TheVariants as fate
-use Rattle.tree_copy.specs.Copying.{IsCopied, IsCopyOf, IsEarly, body_of}
-use Rattle.tree_copy.specs.Copying.{clashes, early, is_tried, is_untold, may_fail, parent_failed, target_of}
-use Rattle.tree_copy.specs.declared.pairs.Pair.{Pair}
-use Rattle.range_copy.specs.Large.{HasBytes, IsSource, in_way}
 use Rattle.range_copy.specs.Large as large
-use Rattle.range_copy.specs.PrivateLarge.{AreFailed, CanMake, fate_of, fitting_target, has_path}
-use Rattle.range_copy.specs.PrivateParts.{exceeds}
-use Rattle.range_copy.specs.declared.came.Came.{Came}
 use Rattle.range_copy.specs.declared.came.Came.TheVariants as came
 use Rattle.range_copy.proofs.Composed.{due_by}
-use Rattle.tree_copy.proofs.Puts.{mapped}
 use Rattle.range_copy.proofs.Rows.{Row}
 
 -- tests of lengths

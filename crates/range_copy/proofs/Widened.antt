@@ -1,50 +1,21 @@
 -- The copy of a list whose large files are copied after all else: what its parts need, and what is so of all entries then.
-use Rattle.std.proofs.Common.{◌≡◌, ◌⊎◌, ℕ, true, false, cond, ◌||◌, ◌&&◌, List, [], ◌∷◌}
-use Rattle.std.proofs.Common.{map, length, Option, Some, None, IfSome}
-use Rattle.std.proofs.Common.{refl, ap, ◌∙◌, sym, subst, arith, nat_eq, nat_lt, is_some}
-use Rattle.std.proofs.lemmas.Bool.{false≢true, or_parts}
-use Rattle.std.proofs.lemmas.List.Elements.{All-from_recursion, recursion_from_All}
-use Rattle.std.specs.Prelude.{nat_le}
-use Rattle.std.specs.FinMap.{get}
-use Rattle.std.specs.List.{All, AllByRecursion, list_any, zip}
-use Rattle.std.specs.Option.{option_map}
-use Rattle.std.specs.Cmp.Lexicographic.{pointwise}
-use Rattle.path_text.specs.Order.{is_within}
-use Rattle.path_text.specs.Path.{parent_of, refusal}
-use Rattle.path_text.proofs.Carried.{parent_moves_too}
-use Rattle.path_text.proofs.Parents.{parent_is_over, parent_under}
-use Rattle.path_text.proofs.Preordered.{preorder}
-use Rattle.path_text.proofs.Under.{contiguous}
-use Rattle.path_text.proofs.Within.{under_longer}
-use Rattle.outside.specs.Parts.{UnderDirectories}
-use Rattle.outside.specs.Tree.{Body, Files, IsTree, Node, content, dir, file, is_dir, is_file, link, other, stat_of}
+use Rattle.range_copy.proofs.Prelude.{◌≡◌, ◌⊎◌, ℕ, true, false, cond, ◌||◌, ◌&&◌, List, [], ◌∷◌, map, length, Option, Some, None, IfSome, refl, ap, ◌∙◌, sym}
+use Rattle.range_copy.proofs.Prelude.{subst, arith, nat_eq, is_some, false≢true, or_parts, All-from_recursion, recursion_from_All, nat_le, get, All}
+use Rattle.range_copy.proofs.Prelude.{AllByRecursion, list_any, zip, option_map, pointwise, is_within, parent_of, refusal, parent_moves_too, parent_is_over}
+use Rattle.range_copy.proofs.Prelude.{parent_under, preorder, contiguous, under_longer, UnderDirectories, Body, Files, IsTree, Node, content, dir, file, is_dir}
+use Rattle.range_copy.proofs.Prelude.{is_file, link, other, stat_of, Stat, is_kind, is_of, size_by, paths, Entry, is_done, AreEarly, CanCopy, Copied, FitsTree}
+use Rattle.range_copy.proofs.Prelude.{IsCopied, IsEarly, SameButTargets, early, is_target, is_tried, is_untold, target_of, treated, IsPair, Pair, Fine, no_root}
+use Rattle.range_copy.proofs.Prelude.{targets_are_apart, IsSource, AreApart, AreFailed, AreRows, CanMake, SameButFor, has_path, is_target_of, exceeds, large_of}
+use Rattle.range_copy.proofs.Prelude.{marks_of, merged, small_of, mapped, weaker, together, Ascend, ascends, both_told}
+use Rattle.std.proofs.Common.{nat_lt}
 use Rattle.outside.specs.declared.trees.Kind.TheVariants as kind
-use Rattle.outside.specs.declared.trees.Stat.{Stat}
-use Rattle.entry_pages.specs.Entries.{is_kind, is_of, size_by}
-use Rattle.flat_list.specs.Spelling.{paths}
-use Rattle.entry_pages.specs.declared.entries.Entry.{Entry}
-use Rattle.level_work.specs.Counts.{is_done}
-use Rattle.tree_copy.specs.Copying.{AreEarly, CanCopy, Copied, FitsTree, IsCopied, IsEarly, SameButTargets, early, is_target}
-use Rattle.tree_copy.specs.Copying.{is_tried, is_untold, target_of, treated}
-use Rattle.tree_copy.specs.Placing.{IsPair}
-use Rattle.tree_copy.specs.declared.pairs.Pair.{Pair}
-use Rattle.tree_copy.proofs.Ends.{Fine, no_root}
-use Rattle.tree_copy.proofs.Off.{targets_are_apart}
-use Rattle.range_copy.specs.Large.{IsSource}
-use Rattle.range_copy.specs.PrivateLarge.{AreApart, AreFailed, AreRows, CanMake, SameButFor, has_path, is_target_of}
-use Rattle.range_copy.specs.PrivateParts.{exceeds, large_of, marks_of, merged, small_of}
 use Rattle.range_copy.proofs.Aside.{all_aside, are_apart, aside, other_paths}
 use Rattle.range_copy.proofs.Composed.{StandApart, both_copied, copied_by}
 use Rattle.range_copy.proofs.Fitted.{Free, Known, fits_small, free_all, known_all, parent_done, treated_all, turned}
-use Rattle.tree_copy.proofs.Puts.{mapped}
-use Rattle.tree_copy.proofs.Comes.{weaker}
-use Rattle.tree_copy.proofs.Copies.{together}
-use Rattle.tree_copy.proofs.Fits.{Ascend, ascends}
 use Rattle.range_copy.proofs.Parted.{all_exceed, any_map, can_small, large_all, large_ascend, small_all, target_in_parts}
 use Rattle.range_copy.proofs.Parted.{treated_large, turned_off}
 use Rattle.range_copy.proofs.Rows.{Row, Told, merged_failed, merged_rows, rows_told, rows_with, told_rows}
 use Rattle.range_copy.proofs.Tried.{early_by, is_file_of, less_too}
-use Rattle.level_work.proofs.Working.{both_told}
 
 abbrev InSource : List Pair → Entry → Type 0
 InSource pairs e = list_any (λ (pair : Pair). is_within e.path pair.source) pairs ≡ true

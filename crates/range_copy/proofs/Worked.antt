@@ -1,19 +1,9 @@
 -- Fillers at work on their spans, turn after turn.
-use Rattle.std.proofs.Common.{◌≡◌, ◌⊎◌, inl, inr, ℕ, zero, suc, ◌+◌, ◌*◌, ◌<◌, ◌≤◌, List, [], ◌∷◌, ◌++◌, map, length, Option}
-use Rattle.std.proofs.Common.{IfSome, refl, ap, ◌∙◌, sym}
-use Rattle.std.proofs.Common.{subst, arith, is_some, append_assoc, append-nil, length-append}
-use Rattle.std.specs.Prelude.{slice_index_or}
-use Rattle.std.specs.List.{AllByRecursion}
-use Rattle.std.proofs.lemmas.List.{length-map, length-reverse, map-append, nil_from_length}
-use Rattle.outside.specs.Tree.{Files}
-use Rattle.outside.specs.Spans.{Piece}
-use Rattle.range_copy.specs.PrivateFilling.{AreLoads, HasRange, HasWorked, IsShort, span_of, spans_left, spans_of}
-use Rattle.range_copy.specs.PrivateTurns.{AllSee, AreDone, AreFilled, AreIdle, AreShort, IsTurn, hand_of}
-use Rattle.range_copy.specs.declared.fillers.Filler.{Filler}
-use Rattle.range_copy.specs.declared.filled.Filled.{Filled}
+use Rattle.range_copy.proofs.Prelude.{◌≡◌, ◌⊎◌, inl, inr, ℕ, zero, suc, ◌+◌, ◌*◌, ◌<◌, ◌≤◌, List, [], ◌∷◌, ◌++◌, map, length, Option, IfSome, refl, ap, ◌∙◌}
+use Rattle.range_copy.proofs.Prelude.{sym, subst, arith, is_some, append_assoc, append-nil, length-append, slice_index_or, AllByRecursion, length-map}
+use Rattle.range_copy.proofs.Prelude.{length-reverse, map-append, nil_from_length, Files, Piece, AreLoads, HasRange, HasWorked, IsShort, span_of, spans_left}
+use Rattle.range_copy.proofs.Prelude.{spans_of, AllSee, AreDone, AreFilled, AreIdle, AreShort, IsTurn, hand_of, Filler, Filled, Load, all_join}
 use Rattle.range_copy.specs.declared.filled.Filled.TheVariants as filled
-use Rattle.range_copy.specs.declared.loads.Load.{Load}
-use Rattle.flat_list.proofs.Pieces.{all_join}
 
 -- what is so of the hands is so of the fillers
 

@@ -1,7 +1,6 @@
 -- The two seats of a board of two ranks.
-use Rattle.std.proofs.Common.{◌≡◌, ◌<◌, ℕ, zero, suc, sym, subst, ap, ◌∙◌, arith, List, [], ◌∷◌, get_or, Option, Some, IfSome}
-use Rattle.post_board.specs.Shown.{Shown, Batches}
-use Rattle.post_board.specs.Fresh.{fresh, AllFresh}
+use Rattle.rank_tests.proofs.Prelude.{◌≡◌, ◌<◌, ℕ, zero, suc, sym, subst, ap, ◌∙◌, arith, List, [], ◌∷◌, get_or, Option, Some, IfSome, Shown, Batches, AllFresh}
+use Rattle.post_board.specs.Fresh.{fresh}
 
 -- what was answered of a list of two
 pub pair_of : {A : Type 0} (all : List A) (answer : Option (A × A)) (first second : A) → IfSome answer (λ pair. all ≡ pair.0 ∷ pair.1 ∷ [])

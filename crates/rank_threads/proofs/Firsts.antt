@@ -1,6 +1,5 @@
 -- What ranks have, in a list by rank from which the last is taken.
-use Rattle.std.proofs.Common.{◌≡◌, ◌<◌, ◌+◌, ℕ, ◌∷◌, ◌++◌, [], List, length, length-append, get_or, subst, ap, arith}
-use Rattle.std.proofs.lemmas.List.{get_or_append_left, get_or_push}
+use Rattle.rank_threads.proofs.Prelude.{◌≡◌, ◌<◌, ◌+◌, ℕ, ◌∷◌, ◌++◌, [], List, length, length-append, get_or, subst, ap, arith, get_or_append_left, get_or_push}
 
 module _ {S : Type 0} (Is : ℕ → S → Type 0) where
   -- the things of the first m ranks, each of which is so

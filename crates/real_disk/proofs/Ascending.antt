@@ -1,14 +1,7 @@
 -- Names that ascend still ascend with one more above the last.
-use Rattle.std.proofs.Common.{◌≡◌, ℕ, ◌+◌, List, [], ◌∷◌, ◌++◌, length, Some, zero, suc, arith, true, refl, subst, sym}
-use Rattle.std.specs.Prelude.{slice_get}
-use Rattle.std.specs.List.{AllByRecursion}
+use Rattle.real_disk.proofs.Prelude.{◌≡◌, ℕ, ◌+◌, List, [], ◌∷◌, ◌++◌, length, Some, zero, suc, arith, true, refl, subst, sym, slice_get, AllByRecursion}
+use Rattle.real_disk.proofs.Prelude.{Ordering, Less, Equal, Greater, IsTotalOrder, nat_cmp_total, slice_cmp, lists_total, nat_cmp, is_lt, AreNames}
 use Rattle.std.specs.List.Sorted.{IsStrictlySortedBy}
-use Rattle.std.specs.declared.cmp.Ordering.{Ordering}
-use Rattle.std.specs.declared.cmp.Ordering.TheVariants.{Less, Equal, Greater}
-use Rattle.std.specs.Cmp.{IsTotalOrder, nat_cmp_total}
-use Rattle.std.specs.Cmp.Lexicographic.{slice_cmp, lists_total}
-use Rattle.std.specs.Ordering.{nat_cmp, is_lt}
-use Rattle.outside.specs.Tree.{AreNames}
 
 order : IsTotalOrder (slice_cmp nat_cmp)
 order = lists_total nat_cmp_total

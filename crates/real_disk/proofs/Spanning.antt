@@ -1,13 +1,6 @@
 -- Spans made of cuts.
-use Rattle.std.proofs.Common.{◌≡◌, ℕ, true, List, [], ◌∷◌}
-use Rattle.std.proofs.Common.{map, refl, ap, ◌∙◌, arith}
-use Rattle.std.proofs.Common.{Some, None, is_some}
-use Rattle.std.specs.Prelude.{All, Option, OnErr, Result, Ok, Err}
-use Rattle.std.specs.Option.{option_map}
-use Rattle.std.proofs.lemmas.List.Elements.{All-cons}
-use Rattle.outside.specs.Writes.{Cut}
-use Rattle.outside.specs.Spans.{Piece, pieces, zeros_of}
-use Rattle.real_disk.specs.Spans.{Seen, blank, count_of, piece_of, untold}
+use Rattle.real_disk.proofs.Prelude.{◌≡◌, ℕ, true, List, [], ◌∷◌, map, refl, ap, ◌∙◌, arith, Some, None, is_some, All, Option, OnErr, Result, Ok, Err}
+use Rattle.real_disk.proofs.Prelude.{option_map, All-cons, Cut, Piece, pieces, zeros_of, Seen, blank, count_of, piece_of, untold}
 
 -- the pieces, the bytes and the counts of new spans
 

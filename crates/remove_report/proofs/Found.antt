@@ -1,35 +1,11 @@
 -- What is chosen of a walk of paths below `/` can be removed.
-use Rattle.std.proofs.Common.{◌≡◌, ◌≢◌, ℕ, ◌≤◌, true, false, cond, ◌||◌, List, [], ◌∷◌, length, take, min, Option, Some, None, IfSome}
-use Rattle.std.proofs.Common.{refl, ap, ◌∙◌, sym, subst, arith, nat_eq, is_some, get_or, length-append, length-take}
-use Rattle.std.proofs.lemmas.Bool.{false≢true}
-use Rattle.std.proofs.lemmas.List.Elements.{All-filter, All-from_recursion, recursion_from_All}
-use Rattle.std.specs.FinMap.{get}
-use Rattle.std.specs.List.{All, AllByRecursion, Contains, filter, flat_map, starts_with}
-use Rattle.std.specs.List.Sorted.{IsStrictlySortedBy}
-use Rattle.std.specs.Cmp.Lexicographic.{bytes_decides}
-use Rattle.std.specs.Option.{option_map}
-use Rattle.path_text.specs.Order.{path_cmp, front}
-use Rattle.outside.specs.Tree.{Files, Node, is_root, kind_of, stat_of}
-use Rattle.outside.specs.declared.trees.Stat.{Stat}
-use Rattle.entry_pages.specs.declared.entries.Entry.{Entry}
-use Rattle.entry_pages.specs.declared.entries.Mark.{Mark}
+use Rattle.remove_report.proofs.Prelude.{◌≡◌, ◌≢◌, ℕ, ◌≤◌, true, false, cond, ◌||◌, List, [], ◌∷◌, length, take, min, Option, Some, None, IfSome, refl, ap, ◌∙◌}
+use Rattle.remove_report.proofs.Prelude.{sym, subst, arith, nat_eq, is_some, get_or, length-append, length-take, false≢true, All-filter, All-from_recursion}
+use Rattle.remove_report.proofs.Prelude.{recursion_from_All, get, All, AllByRecursion, Contains, filter, flat_map, starts_with, IsStrictlySortedBy}
+use Rattle.remove_report.proofs.Prelude.{bytes_decides, option_map, path_cmp, front, Files, Node, is_root, kind_of, stat_of, Stat, Entry, Mark, paths, Test}
+use Rattle.remove_report.proofs.Prelude.{is_selected, meets_all, is_in, is_in_some, EntriesAreTold, stat_by, answers_in, walk, AreChosen, AreThere, Note}
+use Rattle.remove_report.proofs.Prelude.{Choice, roots, Lower, Common, Side, Account, Finds, some_bytes, front_other}
 use Rattle.entry_pages.specs.declared.entries.Mark.TheVariants as mark
-use Rattle.flat_list.specs.Spelling.{paths}
-use Rattle.find_tests.specs.declared.testing.Test.{Test}
-use Rattle.find_tests.specs.Tests.{is_selected, meets_all}
-use Rattle.tree_walk.specs.Roots.{is_in, is_in_some}
-use Rattle.tree_walk.specs.Told.{EntriesAreTold, stat_by}
-use Rattle.tree_walk.specs.Walk.{answers_in, walk}
-use Rattle.tree_remove.specs.Removing.{AreChosen, AreThere}
-use Rattle.tool_text.specs.declared.noting.Note.{Note}
-use Rattle.tool_words.specs.Asked.{Choice, roots}
-use Rattle.tool_words.specs.Limits.{Lower}
-use Rattle.tool_words.specs.declared.commands.Common.{Common}
-use Rattle.run_report.specs.Sides.{Side}
-use Rattle.run_entries.specs.declared.accounts.Account.{Account}
-use Rattle.run_entries.specs.Entries.{Finds}
-use Rattle.path_text.proofs.Within.{some_bytes}
-use Rattle.path_text.proofs.Parts.{front_other}
 
 -- what is chosen by tests has a stat
 

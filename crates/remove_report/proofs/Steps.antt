@@ -1,17 +1,7 @@
 -- What the steps of drm told, as its own words say it.
-use Rattle.std.proofs.Common.{◌≡◌, inl, inr, ⊎_elim, ℕ, Bool, true, false, List, Some, IfSome, is_some, ◌∙◌, subst}
-use Rattle.entry_pages.specs.declared.entries.Entry.{Entry}
-use Rattle.flat_list.specs.Spelling.{paths}
-use Rattle.tree_remove.specs.Removing.{SameButChosen}
-use Rattle.tool_text.specs.declared.noting.Note.{Note}
-use Rattle.tool_words.specs.Asked.{RemoveAsked, roots}
-use Rattle.run_report.specs.declared.stops.Stop.{Stop}
-use Rattle.run_report.specs.Sides.{Side, side_with}
-use Rattle.run_entries.specs.declared.accounts.Account.{Account}
-use Rattle.run_entries.specs.Entries.{Finds}
-use Rattle.run_entries.specs.Stopping.{StopsFinding}
-use Rattle.remove_report.specs.Choosing.{Chooses}
-use Rattle.remove_report.specs.Removing.{StopsRemove, LeavesBy, LeavesRemove}
+use Rattle.remove_report.proofs.Prelude.{◌≡◌, inl, inr, ⊎_elim, ℕ, Bool, true, false, List, Some, IfSome, is_some, ◌∙◌, subst, Entry, paths, SameButChosen}
+use Rattle.remove_report.proofs.Prelude.{Note, RemoveAsked, roots, Stop, Side, side_with, Account, Finds, StopsFinding, Chooses, StopsRemove, LeavesBy}
+use Rattle.remove_report.proofs.Prelude.{LeavesRemove}
 
 -- choosing leaves the tree as it was
 pub chooses_by : (asked : RemoveAsked) (now : ℕ) (before found : Side) (chosen : List Entry) (named : List Note) (account : Account)

@@ -1,39 +1,14 @@
 -- When drm succeeds.
-use Rattle.std.proofs.Common.{◌≡◌, inr, ⊎_elim, ℕ, ◌+◌, ◌≤◌, Bool, true, false, cond, List, [], ◌∷◌, ◌++◌, length, map}
-use Rattle.std.proofs.Common.{Some, refl, ap, ◌∙◌, sym, subst, arith, get_or}
-use Rattle.std.proofs.lemmas.Bool.Decides.{nat_tests}
-use Rattle.std.proofs.lemmas.List.Elements.{All-filter, All-from_recursion, recursion_from_All}
-use Rattle.std.specs.Prelude.{◌==◌}
-use Rattle.std.specs.FinMap.{get}
-use Rattle.std.specs.List.{All, AllByRecursion, flat_map}
-use Rattle.outside.specs.Count.{StoodStill}
-use Rattle.outside.specs.Tree.{Files, far_at}
-use Rattle.entry_pages.specs.declared.entries.Entry.{Entry}
-use Rattle.entry_pages.specs.declared.entries.Mark.{Mark}
+use Rattle.remove_report.proofs.Prelude.{◌≡◌, inr, ⊎_elim, ℕ, ◌+◌, ◌≤◌, Bool, true, false, cond, List, [], ◌∷◌, ◌++◌, length, map, Some, refl, ap, ◌∙◌, sym}
+use Rattle.remove_report.proofs.Prelude.{subst, arith, get_or, nat_tests, All-filter, All-from_recursion, recursion_from_All, ◌==◌, get, All, AllByRecursion}
+use Rattle.remove_report.proofs.Prelude.{flat_map, StoodStill, Files, far_at, Entry, Mark, paths, Fate, EntriesAreTold, far_by, answers_in, walk, AreWhole}
+use Rattle.remove_report.proofs.Prelude.{WholeChoicesGo, Removed, Note, Why, mark_whys, number_whys, whys_of, entry_notes, notes_of, AreInOrder, NothingToOrder}
+use Rattle.remove_report.proofs.Prelude.{RemoveAsked, roots, Valid, WithinRemove, Report, Stop, Side, side_with, IsFineSide, DoneNamesNothing, StillCounts}
+use Rattle.remove_report.proofs.Prelude.{FineFindsNameNothing, FineFindsStopForMemory, FineWalksNameNothing, on_side, removal_notes, of_told, some_of, Acts}
+use Rattle.remove_report.proofs.Prelude.{Chooses, Removes, FineRemoveSucceeds, ReportsRemove, StopsRemove, FineRemove}
 use Rattle.entry_pages.specs.declared.entries.Mark.TheVariants as mark
-use Rattle.flat_list.specs.Spelling.{paths}
-use Rattle.level_work.specs.declared.items.Fate.{Fate}
-use Rattle.tree_walk.specs.Told.{EntriesAreTold, far_by}
-use Rattle.tree_walk.specs.Walk.{answers_in, walk}
-use Rattle.tree_remove.specs.Laws.{AreWhole, WholeChoicesGo}
-use Rattle.tree_remove.specs.Removing.{Removed}
-use Rattle.tool_text.specs.declared.noting.Note.{Note}
-use Rattle.tool_text.specs.declared.noting.Why.{Why}
 use Rattle.tool_text.specs.declared.noting.Why.TheVariants as why
-use Rattle.tool_text.specs.Notes.{mark_whys, number_whys, whys_of, entry_notes, notes_of}
-use Rattle.tool_text.specs.NoteOrder.{AreInOrder, NothingToOrder}
-use Rattle.tool_words.specs.Asked.{RemoveAsked, roots}
-use Rattle.tool_words.specs.Limits.{Valid, WithinRemove}
-use Rattle.run_report.specs.declared.reports.Report.{Report}
-use Rattle.run_report.specs.declared.stops.Stop.{Stop}
 use Rattle.run_report.specs.declared.stops.Stop.TheVariants as stop
-use Rattle.run_report.specs.Sides.{Side, side_with}
-use Rattle.run_entries.specs.Fine.{IsFineSide, DoneNamesNothing, StillCounts, FineFindsNameNothing, FineFindsStopForMemory, FineWalksNameNothing}
-use Rattle.run_entries.specs.Naming.{on_side, removal_notes}
-use Rattle.run_entries.proofs.Fine.{of_told, some_of}
-use Rattle.remove_report.specs.Choosing.{Acts, Chooses, Removes}
-use Rattle.remove_report.specs.Laws.{FineRemoveSucceeds}
-use Rattle.remove_report.specs.Removing.{ReportsRemove, StopsRemove, FineRemove}
 
 abbrev Row : Type 0
 Row = List ℕ × Fate

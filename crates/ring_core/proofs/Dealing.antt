@@ -1,11 +1,7 @@
 -- How many strings each rank is dealt: as many as there are whole rounds, and one more where the last round comes to it.
-use Rattle.std.proofs.Common.{◌≡◌, ℕ, zero, suc, ◌+◌, ◌*◌, ◌/◌, ◌%◌, ◌<◌, ◌≤◌, cond, ◌==◌, nat_lt, [], ◌∷◌, ◌++◌, count_by, sym, ap, ◌∙◌, arith}
-use Rattle.std.proofs.Common.{add-zero, zero-add, mul-zero, mul-suc}
-use Rattle.std.specs.List.{range_with_len}
-use Rattle.std.proofs.Math.Nat.{mul-add-mod_self_left, mod-eq_of_lt, div-add-mod, mod-lt}
-use Rattle.std.proofs.lemmas.List.Sums.{sum_by_push}
-use Rattle.std.proofs.lemmas.Bool.Decides.{nat_tests}
-use Rattle.ring_core.specs.World.{dealt}
+use Rattle.ring_core.proofs.Prelude.{◌≡◌, ℕ, zero, suc, ◌+◌, ◌*◌, ◌/◌, ◌%◌, ◌<◌, ◌≤◌, cond, ◌==◌, nat_lt, [], ◌∷◌, ◌++◌, count_by, sym, ap, ◌∙◌, arith}
+use Rattle.ring_core.proofs.Prelude.{add-zero, zero-add, mul-zero, mul-suc, range_with_len, mul-add-mod_self_left, mod-eq_of_lt, div-add-mod, mod-lt}
+use Rattle.ring_core.proofs.Prelude.{sum_by_push, nat_tests, dealt}
 
 pub range_more : (a n : ℕ) → range_with_len a (suc n) ≡ range_with_len a n ++ (a + n) ∷ []
 range_more a zero = ap (λ k. k ∷ []) (sym (add-zero a))

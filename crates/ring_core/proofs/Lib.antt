@@ -1,3 +1,4 @@
+mod Prelude
 pub mod Dealing
 pub mod TokenLemmas
 pub mod PictureLemmas

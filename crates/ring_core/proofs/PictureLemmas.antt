@@ -1,17 +1,8 @@
 -- Each event alone keeps the token invariant of every picture that has it: one lemma for each kind of event, and all of them together.
-use Rattle.std.proofs.Common.{◌≡◌, ℕ, ◌+◌, ◌-◌, ◌≢◌, ◌⊎◌, inl, inr, ⊎_elim, refl, sym, subst, ap, ◌∙◌, arith, Bool, true, false, cond, nat_lt, List}
-use Rattle.std.proofs.Common.{eq-eqb, ne_eqb}
-use mathlib.Core.Logic.{dite}
-use native.Mathlib.Decide.{ℕ_discrete}
-use Rattle.std.proofs.lemmas.Bool.Decides.{nat_tests}
-use Rattle.ring_core.specs.declared.states.Colour.{Colour}
-use Rattle.ring_core.specs.declared.states.Colour.TheVariants.{White, Black}
-use Rattle.ring_core.specs.declared.states.Token.{Token}
-use Rattle.ring_core.specs.declared.states.Token.TheVariants.{At, Over}
-use Rattle.ring_core.specs.declared.events.Event.{Event}
-use Rattle.ring_core.specs.declared.events.Event.TheVariants.{Handle, Ask, Give, Refuse, Take, TakeNone, Pass, Restart, Conclude, SeeOver}
-use Rattle.ring_core.specs.World.{darker}
-use Rattle.ring_core.specs.Picture.{at_rest, filled_by, is_filled, RankPicture, Picture, put, Becomes, gave, Happens, Active, BlackRank, PictureInvariant}
+use Rattle.ring_core.proofs.Prelude.{◌≡◌, ℕ, ◌+◌, ◌-◌, ◌≢◌, ◌⊎◌, inl, inr, ⊎_elim, refl, sym, subst, ap, ◌∙◌, arith, Bool, true, false, cond, nat_lt, List}
+use Rattle.ring_core.proofs.Prelude.{eq-eqb, ne_eqb, dite, ℕ_discrete, nat_tests, Colour, White, Black, Token, At, Over, Event, Handle, Ask, Give, Refuse, Take}
+use Rattle.ring_core.proofs.Prelude.{TakeNone, Pass, Restart, Conclude, SeeOver, darker, at_rest, filled_by, is_filled, RankPicture, Picture, put, Becomes}
+use Rattle.ring_core.proofs.Prelude.{gave, Happens, Active, BlackRank, PictureInvariant}
 use Rattle.ring_core.proofs.TokenLemmas.{kept_where_nobody_starts, kept_by_giving, kept_by_passing, holds_at_last_rank, quiet_where_rank_0_concludes}
 
 module _ {A : Type 0} where

@@ -1,23 +1,10 @@
 -- Runs: the token invariant holds at the start and after each run, and where it tells the end, nothing is queued and nothing is on the way.
-use Rattle.std.proofs.Common.{◌≡◌, ℕ, zero, suc, ◌+◌, ◌-◌, ◌<◌, inl, inr, refl, sym, subst, ap, ◌∙◌, arith, take, IsTrue, true, List, [], ◌∷◌, ◌++◌}
-use Rattle.std.proofs.Common.{length, map, set, get_or, get_or-set_same, get_or-set_other, length-set, sum_by, None}
-use mathlib.Core.Logic.{dite}
-use native.Mathlib.Decide.{ℕ_discrete}
-use Rattle.std.specs.List.{range_with_len}
-use Rattle.std.proofs.lemmas.Bool.Decides.{nat_tests}
-use Rattle.std.proofs.lemmas.List.{take_more}
-use Rattle.std.proofs.lemmas.List.Sums.{sum_by-cons}
-use Rattle.ring_core.specs.declared.states.Desk.{Desk}
-use Rattle.ring_core.specs.declared.states.Desk.TheVariants.{Rest, Asked, Full, Empty}
-use Rattle.ring_core.specs.declared.states.Token.{Token}
-use Rattle.ring_core.specs.declared.states.Token.TheVariants.{At, Over}
-use Rattle.ring_core.specs.declared.states.RankState.{RankState}
-use Rattle.ring_core.specs.declared.events.Event.{Event}
-use Rattle.ring_core.specs.declared.events.Event.TheVariants.{Handle, Ask, Give, Refuse, Take, TakeNone, Pass, Restart, Conclude, SeeOver}
-use Rattle.ring_core.specs.World.{Seen, fresh, rank_of, is_over, dealt, started, held, queued_in, on_way_in}
-use Rattle.ring_core.specs.Step.{is_busy, is_at, after_giving, refusal, ranks_after, token_after, refused, after}
-use Rattle.ring_core.specs.Picture.{is_filled, mailbox_of, picture_of, IsQuiet, WorldInvariant}
-use Rattle.ring_core.specs.Run.{after_all, IsRun, HoldsSome, NoEmptyBatch}
+use Rattle.ring_core.proofs.Prelude.{◌≡◌, ℕ, zero, suc, ◌+◌, ◌-◌, ◌<◌, inl, inr, refl, sym, subst, ap, ◌∙◌, arith, take, IsTrue, true, List, [], ◌∷◌, ◌++◌}
+use Rattle.ring_core.proofs.Prelude.{length, map, set, get_or, get_or-set_same, get_or-set_other, length-set, sum_by, None, dite, ℕ_discrete, range_with_len}
+use Rattle.ring_core.proofs.Prelude.{nat_tests, take_more, sum_by-cons, Desk, Rest, Asked, Full, Empty, Token, At, Over, RankState, Event, Handle, Ask, Give}
+use Rattle.ring_core.proofs.Prelude.{Refuse, Take, TakeNone, Pass, Restart, Conclude, SeeOver, Seen, fresh, rank_of, is_over, dealt, started, held, queued_in}
+use Rattle.ring_core.proofs.Prelude.{on_way_in, is_busy, is_at, after_giving, refusal, ranks_after, token_after, refused, after, is_filled, mailbox_of}
+use Rattle.ring_core.proofs.Prelude.{picture_of, IsQuiet, WorldInvariant, after_all, IsRun, HoldsSome, NoEmptyBatch}
 use Rattle.ring_core.proofs.WorldLemmas.{handle_says, ask_says, give_says, refuse_says, take_says, take_none_says, pass_says, restart_says}
 use Rattle.ring_core.proofs.WorldLemmas.{conclude_says, see_over_says, over_is, event_keeps_world_invariant}
 

@@ -1,13 +1,8 @@
 -- The seats of a table over atomic words, one for each rank. The first seat makes the others, one after the other. A seat comes to know more by its
 -- own steps, and may take another seat in, which is spent.
-use Rattle.std.proofs.Common.{◌≡◌, ℕ, zero, suc, ◌+◌, ◌<◌, ◌≤◌, ◌≢◌, ◌⊎◌, inl, inr, ⊎_elim, refl, sym, subst, ap, ◌∙◌, arith, Bool, true, false}
-use Rattle.std.proofs.Common.{List, [], ◌∷◌, ◌++◌, length, get_or, set, length-set, length-append}
-use Rattle.std.specs.List.{All}
-use Rattle.std.proofs.lemmas.List.Elements.{All-nil, All-cons, All-append}
-use mathlib.Core.Option.{some, some-injective, some-ne-none}
-use lib.ListN.{get_elem?}
-use Rattle.atomic_table.proofs.Lists.{at_set, set_else, set_here, at_longer}
-use Rattle.ring_core.specs.Picture.{put}
+use Rattle.ring_core.proofs.Prelude.{◌≡◌, ℕ, zero, suc, ◌+◌, ◌<◌, ◌≤◌, ◌≢◌, ◌⊎◌, inl, inr, ⊎_elim, refl, sym, subst, ap, ◌∙◌, arith, Bool, true, false, List}
+use Rattle.ring_core.proofs.Prelude.{[], ◌∷◌, ◌++◌, length, get_or, set, length-set, length-append, All, All-nil, All-cons, All-append, some, some-injective}
+use Rattle.ring_core.proofs.Prelude.{some-ne-none, get_elem?, at_set, set_else, set_here, at_longer, put}
 use Rattle.ring_core.proofs.PictureLemmas.{put_here, put_elsewhere}
 
 module _ {A : Type 0} where

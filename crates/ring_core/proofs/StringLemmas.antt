@@ -1,21 +1,9 @@
 -- No string is lost and none comes twice: what waits, what is on the way and what was handled are what was dealt and what was pushed.
-use Rattle.std.proofs.Common.{◌≡◌, ℕ, zero, suc, ◌+◌, ◌-◌, ◌%◌, ◌<◌, ◌≤◌, refl, sym, ap, ◌∙◌, arith, true, cond, nat_lt, ◌==◌, List, [], ◌∷◌, length}
-use Rattle.std.proofs.Common.{map, set, get_or-set_other, length-set, sum_by, count_by, None}
-use mathlib.Core.Logic.{dite}
-use native.Mathlib.Decide.{ℕ_discrete}
-use Rattle.std.specs.List.{range_with_len}
-use Rattle.std.proofs.Math.Nat.{mod-lt}
-use Rattle.std.proofs.lemmas.Bool.Decides.{nat_tests}
-use Rattle.std.proofs.lemmas.List.Sums.{sum_by-cons, sum_by-set}
-use Rattle.ring_core.specs.declared.states.Desk.{Desk}
-use Rattle.ring_core.specs.declared.states.Desk.TheVariants.{Rest, Asked, Full, Empty}
-use Rattle.ring_core.specs.declared.states.Token.{Token}
-use Rattle.ring_core.specs.declared.states.RankState.{RankState}
-use Rattle.ring_core.specs.declared.events.Event.{Event}
-use Rattle.ring_core.specs.declared.events.Event.TheVariants.{Handle, Ask, Give, Refuse, Take, TakeNone, Pass, Restart, Conclude, SeeOver}
-use Rattle.ring_core.specs.World.{Seen, fresh, rank_of, dealt, started, held, queued_in, on_way_in}
-use Rattle.ring_core.specs.Step.{is_rest, asks, holds, is_refused_by, after_giving, refusal, ranks_after, after}
-use Rattle.ring_core.specs.Run.{after_all, IsRun, is_handle, pushed}
+use Rattle.ring_core.proofs.Prelude.{◌≡◌, ℕ, zero, suc, ◌+◌, ◌-◌, ◌%◌, ◌<◌, ◌≤◌, refl, sym, ap, ◌∙◌, arith, true, cond, nat_lt, ◌==◌, List, [], ◌∷◌, length}
+use Rattle.ring_core.proofs.Prelude.{map, set, get_or-set_other, length-set, sum_by, count_by, None, dite, ℕ_discrete, range_with_len, mod-lt, nat_tests}
+use Rattle.ring_core.proofs.Prelude.{sum_by-cons, sum_by-set, Desk, Rest, Asked, Full, Empty, Token, RankState, Event, Handle, Ask, Give, Refuse, Take}
+use Rattle.ring_core.proofs.Prelude.{TakeNone, Pass, Restart, Conclude, SeeOver, Seen, fresh, rank_of, dealt, started, held, queued_in, on_way_in, is_rest}
+use Rattle.ring_core.proofs.Prelude.{asks, holds, is_refused_by, after_giving, refusal, ranks_after, after, after_all, IsRun, is_handle, pushed}
 use Rattle.ring_core.proofs.WorldLemmas.{handle_says, ask_says, give_says, refuse_says, take_says, take_none_says, pass_says, restart_says}
 use Rattle.ring_core.proofs.WorldLemmas.{conclude_says, see_over_says}
 use Rattle.ring_core.proofs.Dealing.{dealt_more}

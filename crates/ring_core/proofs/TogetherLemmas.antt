@@ -1,14 +1,7 @@
 -- The seats of all ranks come together, the last one of a list first. Each brings the knowledge of its rank, and that of rank 0 an answer.
-use Rattle.std.proofs.Common.{◌≡◌, ℕ, ◌+◌, ◌<◌, ◌≤◌, sym, subst, ap, ◌∙◌, arith, Bool, cond, ◌==◌, eq-eqb, ne_eqb}
-use Rattle.std.proofs.Common.{List, [], ◌∷◌, ◌++◌, length, length-append, get_or}
-use Rattle.std.specs.List.{Contains}
-use Rattle.std.specs.List.Sorted.{IsPermutation}
-use Rattle.std.proofs.Math.Seq.{get_or-append_seam}
-use Rattle.std.proofs.lemmas.List.{get_or_append_left, get_or_default, get_or_push}
-use Rattle.std.proofs.lemmas.List.Elements.{Contains-append_left, Contains-get_or, Contains-push}
-use Rattle.std.proofs.lemmas.List.Sorted.{Contains-permutation, IsPermutation-sym}
-use mathlib.Core.Logic.{dite}
-use native.Mathlib.Decide.{ℕ_discrete}
+use Rattle.ring_core.proofs.Prelude.{◌≡◌, ℕ, ◌+◌, ◌<◌, ◌≤◌, sym, subst, ap, ◌∙◌, arith, Bool, cond, ◌==◌, eq-eqb, ne_eqb, List, [], ◌∷◌, ◌++◌, length}
+use Rattle.ring_core.proofs.Prelude.{length-append, get_or, Contains, IsPermutation, get_or-append_seam, get_or_append_left, get_or_default, get_or_push}
+use Rattle.ring_core.proofs.Prelude.{Contains-append_left, Contains-get_or, Contains-push, Contains-permutation, IsPermutation-sym, dite, ℕ_discrete}
 
 module _ {S : Type 0} where
   -- an element of a list that has one

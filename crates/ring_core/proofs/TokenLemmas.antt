@@ -1,12 +1,6 @@
 -- Each kind of change keeps the token invariant. `active` and `black` are those before the change, `active'` and `black'` those after it.
-use Rattle.std.proofs.Common.{◌≡◌, ℕ, ◌+◌, ◌<◌, ◌≤◌, ◌≢◌, ◌⊎◌, inl, inr, ⊎_elim, subst, arith}
-use mathlib.Core.Logic.{dite}
-use native.Mathlib.Decide.{ℕ_discrete, dec_le}
-use Rattle.ring_core.specs.declared.states.Colour.{Colour}
-use Rattle.ring_core.specs.declared.states.Colour.TheVariants.{Black}
-use Rattle.ring_core.specs.declared.states.Token.{Token}
-use Rattle.ring_core.specs.declared.states.Token.TheVariants.{At, Over}
-use Rattle.ring_core.specs.Invariant.{Quiet, TokenInvariant}
+use Rattle.ring_core.proofs.Prelude.{◌≡◌, ℕ, ◌+◌, ◌<◌, ◌≤◌, ◌≢◌, ◌⊎◌, inl, inr, ⊎_elim, subst, arith, dite, ℕ_discrete, dec_le, Colour, Black, Token, At, Over}
+use Rattle.ring_core.proofs.Prelude.{Quiet, TokenInvariant}
 
 module _ (active black active' black' : ℕ → Type 0) where
   -- nobody becomes active, and nobody is whitened

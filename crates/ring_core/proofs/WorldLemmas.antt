@@ -1,25 +1,12 @@
 -- A legal step of a world is a step of its picture, so each event alone keeps the token invariant of every world that has it.
-use Rattle.std.proofs.Common.{◌≡◌, ℕ, ◌+◌, ◌-◌, ◌<◌, ◌≢◌, ◌⊎◌, inl, inr, ⊎_elim, refl, sym, subst, ap, ◌∙◌, arith, Bool, true, false, not, cond}
-use Rattle.std.proofs.Common.{nat_lt, ◌==◌, ◌||◌, ◌&&◌, List, length, set, get_or-set_same, get_or-set_other, length-set, None}
-use mathlib.Core.Logic.{dite}
-use native.Mathlib.Decide.{ℕ_discrete}
-use Rattle.std.proofs.lemmas.Bool.Decides.{nat_tests}
-use Rattle.ring_core.specs.declared.states.Colour.{Colour}
-use Rattle.ring_core.specs.declared.states.Colour.TheVariants.{White, Black}
-use Rattle.ring_core.specs.declared.states.Desk.{Desk}
-use Rattle.ring_core.specs.declared.states.Desk.TheVariants.{Rest, Asked, Full, Empty}
-use Rattle.ring_core.specs.declared.states.Token.{Token}
-use Rattle.ring_core.specs.declared.states.Token.TheVariants.{At, Over}
-use Rattle.ring_core.specs.declared.states.RankState.{RankState}
-use Rattle.ring_core.specs.declared.events.Event.{Event}
-use Rattle.ring_core.specs.declared.events.Event.TheVariants.{Handle, Ask, Give, Refuse, Take, TakeNone, Pass, Restart, Conclude, SeeOver}
-use Rattle.ring_core.specs.World.{fresh, rank_of, is_black, darker, is_over}
-use Rattle.ring_core.specs.Step.{is_busy, is_rest, asks, holds, is_refused_by, is_at, is_token_black, differs, after_giving, refusal, ranks_after, token_after}
-use Rattle.ring_core.specs.Picture.{at_rest, asked_of, filled_by, refused_by, is_filled, RankPicture, put, Becomes, gave, PictureInvariant}
-use Rattle.ring_core.specs.Picture.{mailbox_of, pictured, picture_of, WorldInvariant, IsStepOfPicture}
-use Rattle.ring_core.specs.Run.{HoldsSome, NoEmptyBatch}
+use Rattle.ring_core.proofs.Prelude.{◌≡◌, ℕ, ◌+◌, ◌-◌, ◌<◌, ◌≢◌, ◌⊎◌, inl, inr, ⊎_elim, refl, sym, subst, ap, ◌∙◌, arith, Bool, true, false, not, cond, nat_lt}
+use Rattle.ring_core.proofs.Prelude.{◌==◌, ◌||◌, ◌&&◌, List, length, set, get_or-set_same, get_or-set_other, length-set, None, dite, ℕ_discrete, nat_tests}
+use Rattle.ring_core.proofs.Prelude.{Colour, White, Black, Desk, Rest, Asked, Full, Empty, Token, At, Over, RankState, Event, Handle, Ask, Give, Refuse, Take}
+use Rattle.ring_core.proofs.Prelude.{TakeNone, Pass, Restart, Conclude, SeeOver, fresh, rank_of, is_black, darker, is_over, is_busy, is_rest, asks, holds}
+use Rattle.ring_core.proofs.Prelude.{is_refused_by, is_at, is_token_black, differs, after_giving, refusal, ranks_after, token_after, at_rest, asked_of}
+use Rattle.ring_core.proofs.Prelude.{filled_by, refused_by, is_filled, RankPicture, put, Becomes, gave, PictureInvariant, mailbox_of, pictured, picture_of}
+use Rattle.ring_core.proofs.Prelude.{WorldInvariant, IsStepOfPicture, HoldsSome, NoEmptyBatch, or_parts}
 use Rattle.ring_core.proofs.PictureLemmas.{put_here, put_elsewhere, calm_change_keeps_invariant, event_keeps_invariant}
-use Rattle.std.proofs.lemmas.Bool.{or_parts}
 
 -- one rank of the list is replaced
 pub replaced : (ranks : List RankState) (r : ℕ) (x : RankState) → r < length ranks → Becomes (picture_of ranks) r (pictured x) (picture_of (set ranks r x))

@@ -1,12 +1,7 @@
 -- What is chosen of a list stands in its order and has its shapes.
-use Rattle.std.proofs.Common.{◌≡◌, ℕ, Bool, true, false, List, [], ◌∷◌, filter, cond, subst, sym}
-use Rattle.std.specs.List.{All, AllByRecursion}
+use Rattle.run_entries.proofs.Prelude.{◌≡◌, ℕ, Bool, true, false, List, [], ◌∷◌, filter, cond, subst, sym, All, AllByRecursion, Less, recursion_from_All}
+use Rattle.run_entries.proofs.Prelude.{All-from_recursion, path_cmp, Entry, paths}
 use Rattle.std.specs.List.Sorted.{IsStrictlySortedBy}
-use Rattle.std.specs.declared.cmp.Ordering.TheVariants.{Less}
-use Rattle.std.proofs.lemmas.List.Elements.{recursion_from_All, All-from_recursion}
-use Rattle.path_text.specs.Order.{path_cmp}
-use Rattle.entry_pages.specs.declared.entries.Entry.{Entry}
-use Rattle.flat_list.specs.Spelling.{paths}
 
 one_of : {X : Type 0} (P : X → Type 0) (b : Bool) (x y : X) → P x → P y → P (cond b x y)
 one_of P true x y h g = h

@@ -1,11 +1,7 @@
 -- What is done names nothing, and where a count stood still nothing failed.
-use Rattle.std.proofs.Common.{◌≡◌, ℕ, List, [], ◌∷◌, ◌++◌, refl, arith}
-use Rattle.std.proofs.lemmas.List.Elements.{recursion_from_All}
-use Rattle.std.specs.List.{AllByRecursion}
-use Rattle.level_work.specs.declared.items.Fate.{Fate}
+use Rattle.run_entries.proofs.Prelude.{◌≡◌, ℕ, List, [], ◌∷◌, ◌++◌, refl, arith, recursion_from_All, AllByRecursion, Fate, DoneNamesNothing, StillCounts}
+use Rattle.run_entries.proofs.Prelude.{copy_notes, copy_whys, notes_by, removal_notes, removal_whys}
 use Rattle.level_work.specs.declared.items.Fate.TheVariants as fate
-use Rattle.run_entries.specs.Fine.{DoneNamesNothing, StillCounts}
-use Rattle.run_entries.specs.Naming.{copy_notes, copy_whys, notes_by, removal_notes, removal_whys}
 
 abbrev Row : Type 0
 Row = List ℕ × Fate

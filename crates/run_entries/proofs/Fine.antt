@@ -1,48 +1,20 @@
 -- What is fine names nothing, and stops nothing but for want of memory.
-use Rattle.std.proofs.Common.{◌≡◌, ℕ, ◌<◌, ◌≤◌, Bool, true, false, not, ◌&&◌, ◌||◌, cond, List, [], ◌∷◌, ◌++◌, map, length, Option, Some, None}
-use Rattle.std.proofs.Common.{IfSome, refl, sym, ap, subst, arith, ◌∙◌, ⊎_elim}
-use Rattle.std.specs.Option.{is_some, is_none}
-use Rattle.std.specs.List.{All, AllByRecursion, sum_by, flat_map}
-use Rattle.std.specs.Cmp.Lexicographic.{bytes_decides}
-use Rattle.std.specs.FinMap.{get, insert, get-insert}
-use Rattle.std.specs.Ordering.{eq_by_cmp}
-use Rattle.std.proofs.lemmas.Bool.{false≢true}
-use Rattle.std.proofs.lemmas.List.Elements.{recursion_from_All, All-from_recursion}
-use Rattle.path_text.specs.Order.{path_cmp}
-use Rattle.path_text.specs.Path.{parent_of}
-use Rattle.path_text.specs.Total.{path_cmp_total, path_cmp_ties}
-use Rattle.outside.specs.Tree.{Files, Node, Body, dir, file, link, other, IsTree, is_root, is_dir, is_file, is_dir_body, is_file_body}
-use Rattle.outside.specs.Writes.{new_file}
-use Rattle.outside.specs.Count.{RoseBy, StoodStill}
-use Rattle.outside.specs.Whole.{HoldsFile, can_save}
-use Rattle.entry_pages.specs.declared.entries.Entry.{Entry}
+use Rattle.run_entries.proofs.Prelude.{◌≡◌, ℕ, ◌<◌, ◌≤◌, Bool, true, false, not, ◌&&◌, ◌||◌, cond, List, [], ◌∷◌, ◌++◌, map, length, Option, Some, None, IfSome}
+use Rattle.run_entries.proofs.Prelude.{refl, sym, ap, subst, arith, ◌∙◌, ⊎_elim, is_some, is_none, All, AllByRecursion, sum_by, flat_map, bytes_decides, get}
+use Rattle.run_entries.proofs.Prelude.{insert, get-insert, eq_by_cmp, false≢true, recursion_from_All, All-from_recursion, path_cmp, parent_of, path_cmp_total}
+use Rattle.run_entries.proofs.Prelude.{path_cmp_ties, Files, Node, Body, dir, file, link, other, IsTree, is_root, is_dir, is_file, is_dir_body, is_file_body}
+use Rattle.run_entries.proofs.Prelude.{new_file, RoseBy, StoodStill, HoldsFile, can_save, Entry, Two, Spells, SpellsAs, SpellsOne, RefusesExactly, IsRefused}
+use Rattle.run_entries.proofs.Prelude.{IsTooLong, Look, Seen, AreLooks, is_at, LooksWithoutFaultsAreTold, mark_whys, number_whys, whys_of, notes_of, AreInOrder}
+use Rattle.run_entries.proofs.Prelude.{NothingToOrder, Valid, paths_in, Origin, roots, input, walk, all_told, answers_in, weight_of, WalkWithoutFaultsIsFine}
+use Rattle.run_entries.proofs.Prelude.{RootsAreUnique, Stop, Side, side_with, Output, newer_in, look_whys, look_notes, on_side, listing_notes, Saved, Walked}
+use Rattle.run_entries.proofs.Prelude.{Listed, HasTooManyEntries, IsDamagedList, IsAbsent, StopsListing, StopsAt, IsFineWalk, IsFineList, IsFineStart}
+use Rattle.run_entries.proofs.Prelude.{FineFindsNameNothing, FineFindsStopForMemory, FineWalksNameNothing, FineWalksAreWhole, FineWalksStopForMemory}
+use Rattle.run_entries.proofs.Prelude.{FinePlacesStopForMemory, none_counted}
 use Rattle.entry_pages.specs.declared.entries.Mark.TheVariants as mark
-use Rattle.flat_list.specs.declared.versions.Version.TheVariants.{Two}
-use Rattle.flat_list.specs.Spelling.{Spells, SpellsAs, SpellsOne, RefusesExactly, IsRefused, IsTooLong}
-use Rattle.path_looks.specs.declared.looks.Look.{Look}
-use Rattle.path_looks.specs.declared.looks.Seen.{Seen}
 use Rattle.path_looks.specs.declared.looks.Seen.TheVariants as seen
-use Rattle.path_looks.specs.Looks.{AreLooks, is_at, LooksWithoutFaultsAreTold}
 use Rattle.tool_text.specs.declared.noting.Why.TheVariants as why
-use Rattle.tool_text.specs.Notes.{mark_whys, number_whys, whys_of, notes_of}
-use Rattle.tool_text.specs.NoteOrder.{AreInOrder, NothingToOrder}
-use Rattle.tool_words.specs.Limits.{Valid, paths_in}
-use Rattle.tool_words.specs.Asked.{Origin, roots, input}
-use Rattle.tree_walk.specs.Walk.{walk, all_told, answers_in, weight_of, WalkWithoutFaultsIsFine}
-use Rattle.tree_walk.specs.Roots.{RootsAreUnique}
 use Rattle.run_report.specs.declared.stops.Trouble.TheVariants as trouble
-use Rattle.run_report.specs.declared.stops.Stop.{Stop}
 use Rattle.run_report.specs.declared.stops.Stop.TheVariants as stop
-use Rattle.run_report.specs.Sides.{Side, side_with}
-use Rattle.run_entries.specs.declared.saving.Output.{Output}
-use Rattle.run_entries.specs.Choosing.{newer_in}
-use Rattle.run_entries.specs.Naming.{look_whys, look_notes, on_side, listing_notes}
-use Rattle.run_entries.specs.Saving.{Saved}
-use Rattle.run_entries.specs.Entries.{Walked, Listed}
-use Rattle.run_entries.specs.Stopping.{HasTooManyEntries, IsDamagedList, IsAbsent, StopsListing, StopsAt}
-use Rattle.run_entries.specs.Fine.{IsFineWalk, IsFineList, IsFineStart, FineFindsNameNothing, FineFindsStopForMemory, FineWalksNameNothing}
-use Rattle.run_entries.specs.Fine.{FineWalksAreWhole, FineWalksStopForMemory, FinePlacesStopForMemory}
-use Rattle.path_looks.proofs.Told.{none_counted}
 
 -- ---- counts
 

@@ -1,15 +1,7 @@
 -- What was looked at and listed, step by step.
-use Rattle.std.proofs.Common.{◌≡◌, inr, ℕ, ◌≤◌, List, [], Option, subst, arith}
+use Rattle.run_entries.proofs.Prelude.{◌≡◌, inr, ℕ, ◌≤◌, List, [], Option, subst, arith, All-from_recursion, Files, Look, AreLooks, Origin, Choice, Stop, Side}
+use Rattle.run_entries.proofs.Prelude.{side_with, newer_in, StopsListing, StopsFinding}
 use Rattle.std.specs.List.Sorted.{IsStrictlySortedBy}
-use Rattle.std.proofs.lemmas.List.Elements.{All-from_recursion}
-use Rattle.outside.specs.Tree.{Files}
-use Rattle.path_looks.specs.declared.looks.Look.{Look}
-use Rattle.path_looks.specs.Looks.{AreLooks}
-use Rattle.tool_words.specs.Asked.{Origin, Choice}
-use Rattle.run_report.specs.declared.stops.Stop.{Stop}
-use Rattle.run_report.specs.Sides.{Side, side_with}
-use Rattle.run_entries.specs.Choosing.{newer_in}
-use Rattle.run_entries.specs.Stopping.{StopsListing, StopsFinding}
 
 -- where nothing is looked at
 pub no_looks : (tree : Option Files) (count : ℕ) → count ≤ 18446744073709551615 → AreLooks tree [] [] count count

@@ -1,14 +1,9 @@
 -- Entries of which no failure is counted name nothing.
-use Rattle.std.proofs.Common.{◌≡◌, ◌∙◌, ℕ, ◌+◌, ◌==◌, cond, List, [], ◌∷◌, ◌++◌, map, refl, sym, ap, subst, false, arith}
-use Rattle.std.specs.List.{AllByRecursion, sum_by}
+use Rattle.run_entries.proofs.Prelude.{◌≡◌, ◌∙◌, ℕ, ◌+◌, cond, List, [], ◌∷◌, ◌++◌, map, refl, sym, ap, subst, false, arith, AllByRecursion, sum_by}
+use Rattle.run_entries.proofs.Prelude.{sum_by-cons, Entry, Mark, mark_notes, note_count, summary_of, AreInOrder, on_side, failures_in}
+use Rattle.std.proofs.Common.{◌==◌}
 use Rattle.std.specs.List.Sorted.{IsStrictlySortedBy}
-use Rattle.std.proofs.lemmas.List.Sums.{sum_by-cons}
-use Rattle.entry_pages.specs.declared.entries.Entry.{Entry}
-use Rattle.entry_pages.specs.declared.entries.Mark.{Mark}
 use Rattle.entry_pages.specs.declared.entries.Mark.TheVariants as mark
-use Rattle.entry_pages.specs.Entries.{mark_notes, note_count, summary_of}
-use Rattle.tool_text.specs.NoteOrder.{AreInOrder}
-use Rattle.run_entries.specs.Naming.{on_side, failures_in}
 use Rattle.run_entries.proofs.Fine.{IsFine, no_notes}
 
 fine_mark : (m : Mark) → mark_notes m ≡ 0 → m ≡ mark.Fine

@@ -1,24 +1,9 @@
 -- The tree after outputs are saved.
-use Rattle.std.proofs.Common.{◌≡◌, ℕ, ◌+◌, ◌<◌, ◌≤◌, suc, true, List, [], ◌∷◌, ◌++◌, map, length, take, drop, get_or, cond, Option}
-use Rattle.std.proofs.Common.{Some, None, IfSome, refl, sym, ap, subst, ◌∙◌, arith, add-one}
-use Rattle.std.specs.Prelude.{Result, Ok, Err, IfErr}
-use Rattle.std.specs.Option.{is_some}
-use Rattle.std.specs.List.{list_any}
-use Rattle.std.specs.Cmp.Lexicographic.{pointwise}
-use Rattle.std.specs.Prelude.{nat_eq}
-use Rattle.std.specs.FinMap.{get, insert, get-insert}
-use Rattle.std.proofs.Math.Seq.{drop-cons, take-suc}
-use Rattle.std.proofs.lemmas.Bool.{false≢true, or_parts}
-use Rattle.std.proofs.lemmas.List.{take-append-drop}
-use Rattle.path_text.specs.Total.{path_cmp_total, path_cmp_ties}
-use Rattle.outside.specs.Tree.{Files}
-use Rattle.outside.specs.Writes.{new_file, SameBut}
-use Rattle.outside.specs.Whole.{can_save}
-use Rattle.run_report.specs.declared.stops.Stop.{Stop}
-use Rattle.run_report.specs.Sides.{Side}
-use Rattle.run_entries.specs.declared.saving.Output.{Output}
-use Rattle.run_entries.specs.Saving.{SavedAt, Saved, SameButAll, SameButOutputs}
-use Rattle.run_entries.specs.Stopping.{StopsAt, StopsSaving}
+use Rattle.run_entries.proofs.Prelude.{◌≡◌, ℕ, ◌+◌, ◌<◌, ◌≤◌, suc, true, List, [], ◌∷◌, ◌++◌, map, length, take, drop, cond, Option, Some, None, IfSome, refl}
+use Rattle.run_entries.proofs.Prelude.{sym, ap, subst, ◌∙◌, arith, add-one, Result, Ok, Err, IfErr, is_some, list_any, pointwise, nat_eq, get, insert}
+use Rattle.run_entries.proofs.Prelude.{get-insert, drop-cons, take-suc, false≢true, or_parts, take-append-drop, path_cmp_total, path_cmp_ties, Files, new_file}
+use Rattle.run_entries.proofs.Prelude.{SameBut, can_save, Stop, Side, Output, SavedAt, Saved, SameButAll, SameButOutputs, StopsAt, StopsSaving}
+use Rattle.std.proofs.Common.{get_or}
 
 -- ---- what is as before
 

@@ -1,29 +1,9 @@
 -- What a walk of one path lists is a side, and has the stats that the tree tells.
-use Rattle.std.proofs.Common.{◌≡◌, ℕ, ◌<◌, zero, suc, true, false, ◌||◌, List, [], ◌∷◌, Option, Some, None, IfSome, refl, ap, ◌∙◌, sym, subst, arith}
-use Rattle.std.specs.Prelude.{IsTrue}
-use Rattle.std.specs.List.{All, AllByRecursion, Contains, flat_map}
-use Rattle.std.specs.List.Sorted.{IsStrictlySortedBy}
-use Rattle.std.specs.FinMap.{get}
-use Rattle.std.specs.Option.{option_map}
-use Rattle.std.proofs.Math.ListN.{get_or}
-use Rattle.std.proofs.lemmas.Bool.{false≢true}
-use Rattle.std.proofs.lemmas.List.Elements.{recursion_from_All, All-from_recursion}
-use Rattle.path_text.specs.Path.{refusal}
-use Rattle.path_text.proofs.Fronts.{fronts_within}
-use Rattle.path_text.specs.Order.{path_cmp, is_within}
-use Rattle.outside.specs.Tree.{Files, Node, stat_of}
-use Rattle.outside.specs.declared.trees.Stat.{Stat}
-use Rattle.entry_pages.specs.declared.entries.Entry.{Entry}
-use Rattle.entry_pages.specs.declared.entries.Mark.{Mark}
+use Rattle.run_entries.proofs.Prelude.{◌≡◌, ℕ, ◌<◌, zero, suc, true, false, ◌||◌, List, [], ◌∷◌, Option, Some, None, IfSome, refl, ap, ◌∙◌, sym, subst, arith}
+use Rattle.run_entries.proofs.Prelude.{IsTrue, All, AllByRecursion, Contains, flat_map, IsStrictlySortedBy, get, option_map, get_or, false≢true}
+use Rattle.run_entries.proofs.Prelude.{recursion_from_All, All-from_recursion, refusal, fronts_within, path_cmp, is_within, Files, Node, stat_of, Stat, Entry}
+use Rattle.run_entries.proofs.Prelude.{Mark, paths, is_in, is_in_some, stat_by, IsTold, EntriesAreTold, walk, answers_in, StatsTold, side, IsSide, Side, Walked}
 use Rattle.entry_pages.specs.declared.entries.Mark.TheVariants as mark
-use Rattle.flat_list.specs.Spelling.{paths}
-use Rattle.tree_walk.specs.Roots.{is_in, is_in_some}
-use Rattle.tree_walk.specs.Told.{stat_by, IsTold, EntriesAreTold}
-use Rattle.tree_walk.specs.Walk.{walk, answers_in}
-use Rattle.tree_cmp.specs.Readers.{StatsTold}
-use Rattle.tree_cmp.specs.Sides.{side, IsSide}
-use Rattle.run_report.specs.Sides.{Side}
-use Rattle.run_entries.specs.Entries.{Walked}
 
 -- ---- what is in a root of one path is in that path
 

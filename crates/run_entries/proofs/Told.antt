@@ -1,27 +1,10 @@
 -- What is told of a walk, from its roots on.
-use Rattle.std.proofs.Common.{ℕ, ◌<◌, List, Option, Some, None, IfSome, ◌≡◌, Bool, true, false, ◌&&◌, refl, subst, arith}
-use Rattle.std.specs.Prelude.{Result, Ok, Err, IfOk, ◌||◌, ◌==◌}
-use Rattle.std.specs.List.{flat_map}
-use Rattle.std.specs.List.Sorted.{IsStrictlySortedBy}
-use Rattle.std.proofs.lemmas.List.Sorted.{IsPermutation-refl}
-use Rattle.std.proofs.lemmas.Bool.Decides.{nat_tests}
-use Rattle.path_text.specs.Order.{path_cmp}
-use Rattle.outside.specs.Tree.{Files}
-use Rattle.entry_pages.specs.declared.entries.Entry.{Entry}
-use Rattle.flat_list.specs.Spelling.{max_entries}
-use Rattle.tool_words.specs.Asked.{roots}
-use Rattle.tool_words.specs.declared.commands.Common.{Common}
-use Rattle.tool_words.specs.Limits.{CommonWithin}
-use Rattle.tree_walk.specs.declared.errors.WalkError.{WalkError}
-use Rattle.tree_walk.specs.Walk.{walk, answers_in}
-use Rattle.tree_walk.specs.Roots.{IsRoots}
-use Rattle.tree_walk.specs.Found.{IsFound, IsWalkOf, FoundTooMany, IfTooMany}
+use Rattle.run_entries.proofs.Prelude.{ℕ, ◌<◌, List, Option, Some, None, IfSome, ◌≡◌, Bool, true, false, ◌&&◌, refl, subst, arith, Result, Ok, Err, IfOk, ◌==◌}
+use Rattle.run_entries.proofs.Prelude.{flat_map, IsStrictlySortedBy, IsPermutation-refl, nat_tests, path_cmp, Files, Entry, max_entries, roots, Common}
+use Rattle.run_entries.proofs.Prelude.{CommonWithin, WalkError, walk, answers_in, IsRoots, IsFound, IsWalkOf, FoundTooMany, IfTooMany, Side, Entries, Walked}
+use Rattle.run_entries.proofs.Prelude.{StopsListing, stop_of_walk, keeps_events, IsAccount}
+use Rattle.std.specs.Prelude.{◌||◌}
 use Rattle.tree_walk.specs.declared.errors.WalkError.TheVariants as error
-use Rattle.run_report.specs.Sides.{Side}
-use Rattle.run_entries.specs.declared.accounts.Entries.{Entries}
-use Rattle.run_entries.specs.Entries.{Walked}
-use Rattle.run_entries.specs.Stopping.{StopsListing, stop_of_walk}
-use Rattle.run_entries.specs.Tells.{keeps_events, IsAccount}
 
 -- starts that stand in path order are walked one after the other
 in_order : (tree : Option Files) (starts : List (List ℕ)) (entries : List Entry) → IsStrictlySortedBy path_cmp starts →

@@ -1,11 +1,6 @@
 -- What a run tells that ends with one line.
-use Rattle.std.proofs.Common.{◌≡◌, ◌⊎◌, inl, inr, ℕ, List, subst}
-use Rattle.std.specs.Prelude.{Result, Ok, Err, IfOk, OnOk, OnErr}
-use Rattle.run_report.specs.declared.statuses.Status.{Status}
+use Rattle.run_report.proofs.Prelude.{◌≡◌, ◌⊎◌, inl, inr, ℕ, List, subst, Result, Ok, Err, IfOk, OnOk, OnErr, Status, GrewByLine, memory_line, Stream}
 use Rattle.run_report.specs.declared.statuses.Status.TheVariants as status
-use Rattle.run_report.specs.Ends.{GrewByLine}
-use Rattle.run_report.specs.Lines.{memory_line}
-use Rattle.run_report.specs.Sides.{Stream}
 
 -- the line was made, and stands with its status; or no memory was found for it
 pub told_by : {E : Type 0} (line : Result (List ℕ) E) (text : List ℕ) (by answer : Status) (old new : Stream) → IfOk line (λ t. t ≡ text) →

@@ -1,14 +1,8 @@
 -- Counts of several readers that read together, and then of the first one, which goes on.
-use Rattle.std.proofs.Common.{◌≡◌, ℕ, ◌+◌, ◌-◌, ◌^◌, ◌<◌, ◌≤◌, false, ◌||◌, List, [], ◌∷◌, length, map, get_or, set, refl, ap, ◌∙◌}
-use Rattle.std.proofs.Common.{arith, nat_le, Option}
-use Rattle.std.specs.Prelude.{sum}
-use Rattle.std.proofs.lemmas.Bool.{leb-false, or_parts}
-use Rattle.std.proofs.lemmas.Bool.Decides.{nat_tests}
-use Rattle.std.proofs.lemmas.List.{length-map}
-use Rattle.std.proofs.lemmas.List.Sums.{sum_by-cons}
-use Rattle.outside.specs.Count.{RoseBy}
-use Rattle.outside.specs.Tree.{Files}
-use Rattle.shared_reads.specs.Counts.{NoneFell, RoseTogether, KeepsUp, KeepUp, is_at_end}
+use Rattle.shared_reads.proofs.Prelude.{◌≡◌, ℕ, ◌+◌, ◌-◌, ◌^◌, ◌<◌, ◌≤◌, false, ◌||◌, List, [], ◌∷◌, length, map, get_or, set, refl, ap, ◌∙◌, arith, Option}
+use Rattle.shared_reads.proofs.Prelude.{sum, leb-false, or_parts, nat_tests, length-map, sum_by-cons, RoseBy, Files, NoneFell, RoseTogether, KeepsUp, KeepUp}
+use Rattle.shared_reads.proofs.Prelude.{is_at_end}
+use Rattle.std.proofs.Common.{nat_le}
 
 pub fell_same : (counts : List ℕ) → NoneFell counts counts
 fell_same [] = tt

@@ -1,9 +1,7 @@
 -- Readers go from one list's end to another's.
-use Rattle.std.proofs.Common.{◌≡◌, ℕ, List, [], ◌∷◌, ◌++◌, map, length, take, drop, append_assoc, append-nil, ap, ◌∙◌, sym, arith, All}
-use Rattle.std.specs.Prelude.{reverse}
-use Rattle.std.specs.List.{AllByRecursion}
-use Rattle.std.proofs.lemmas.List.Elements.{recursion_from_All, All-from_recursion}
-use Rattle.std.proofs.lemmas.List.{map-append, reverse-append, nil_from_length, length-drop, take_all}
+use Rattle.shared_reads.proofs.Prelude.{◌≡◌, ℕ, List, [], ◌∷◌, ◌++◌, map, length, take, drop, append_assoc, append-nil, ap, ◌∙◌, sym, arith, All, reverse}
+use Rattle.shared_reads.proofs.Prelude.{AllByRecursion, recursion_from_All, All-from_recursion, map-append, reverse-append, nil_from_length, length-drop}
+use Rattle.shared_reads.proofs.Prelude.{take_all}
 
 -- what the last one of some has goes to the end of a list
 pub moved : {X Y : Type 0} (part : X → Y) (list : List Y) (rest : List X) (x : X) →

@@ -1,18 +1,12 @@
 -- What is kept is given out.
-use Rattle.std.proofs.Common.{ℕ, ◌+◌, ◌<◌, List, [], ◌∷◌, ◌++◌, length, get_or, subst}
-use Rattle.std.proofs.Common.{arith, All, Vec, Global}
-use Rattle.std.specs.List.{AllByRecursion}
-use Rattle.std.proofs.lemmas.List.Elements.{recursion_from_All, All-from_recursion}
-use Rattle.shared_reads.specs.declared.keeping.Found.{Found}
-use Rattle.shared_reads.specs.declared.keeping.Kept.{Kept}
-use Rattle.shared_reads.specs.Kept.{IsTold, Holds, Stands, IsKept, IsCut, AreCut}
+use Rattle.shared_reads.proofs.Prelude.{ℕ, ◌+◌, ◌<◌, List, [], ◌∷◌, ◌++◌, length, get_or, subst, arith, All, Vec, Global, AllByRecursion, recursion_from_All}
+use Rattle.shared_reads.proofs.Prelude.{All-from_recursion, Found, Kept, IsTold, Holds, Stands, IsKept, IsCut, AreCut}
 
 pub all_front : {A : Type 0} (P : A → Type 0) (xs ys : List A) → AllByRecursion P (xs ++ ys) → AllByRecursion P xs
 all_front P [] ys h = tt
 all_front P (x ∷ xs) ys h = (h.0, all_front P xs ys h.1)
 
 module _ {O : Type 0} where
-
   cut_holds : (P : ℕ → O → Type 0) (was found : List (Found O)) → IsCut was found → All (IsTold P) was → All (IsTold P) found
   cut_holds P was found c h =
       All-from_recursion (IsTold P) found (all_front (IsTold P) found c.later

@@ -1,21 +1,8 @@
 -- Readers before, while and after they are workers.
-use Rattle.std.proofs.Common.{◌≡◌, ℕ, zero, suc, ◌+◌, ◌-◌, ◌^◌, ◌<◌, false, ◌||◌, List, [], ◌∷◌, ◌++◌, map, length, get_or, refl}
-use Rattle.std.proofs.Common.{sym, subst, ap, ◌∙◌, arith, Option, All, Vec, Global}
-use Rattle.std.specs.Prelude.{reverse, sum, nat_le}
-use Rattle.std.specs.List.{AllByRecursion, sum_by}
-use Rattle.std.proofs.lemmas.Bool.Decides.{nat_tests}
-use Rattle.std.proofs.lemmas.Grind.{reverse_onto}
-use Rattle.std.proofs.lemmas.List.{map-append}
-use Rattle.std.proofs.lemmas.List.Sums.{sum-map, sum_by-cons, sum_by-append}
-use Rattle.std.proofs.lemmas.List.Elements.{recursion_from_All, All-from_recursion}
-use Rattle.std.proofs.lemmas.List.Folds.{list_any-append}
-use Rattle.outside.specs.Tree.{Files}
-use Rattle.shared_reads.specs.declared.keeping.Found.{Found}
-use Rattle.shared_reads.specs.declared.sharing.Worker.{Worker}
-use Rattle.shared_reads.specs.Counts.{NoneFell, is_at_end, RoseTogether}
-use Rattle.shared_reads.specs.Kept.{IsTold, all_faults}
-use Rattle.shared_reads.specs.Private.Sharing.{IsWorked}
-use Rattle.std.proofs.lemmas.Bool.{or_parts}
+use Rattle.shared_reads.proofs.Prelude.{◌≡◌, ℕ, zero, suc, ◌+◌, ◌-◌, ◌^◌, ◌<◌, false, ◌||◌, List, [], ◌∷◌, ◌++◌, map, length, get_or, refl, sym, subst, ap, ◌∙◌}
+use Rattle.shared_reads.proofs.Prelude.{arith, Option, All, Vec, Global, reverse, sum, nat_le, AllByRecursion, sum_by, nat_tests, reverse_onto, map-append}
+use Rattle.shared_reads.proofs.Prelude.{sum-map, sum_by-cons, sum_by-append, recursion_from_All, All-from_recursion, list_any-append, Files, Found, Worker}
+use Rattle.shared_reads.proofs.Prelude.{NoneFell, is_at_end, RoseTogether, IsTold, all_faults, IsWorked, or_parts}
 use Rattle.shared_reads.proofs.Taken.{all_front}
 
 not_le : (m n : ℕ) → nat_le m n ≡ false → n < m

@@ -1,23 +1,7 @@
 -- What a stage begins with: nothing done and the roots, or what the checkpoint in its folder holds.
-use Rattle.std.proofs.Common.{◌≡◌, ℕ, ◌<◌, List, [], ◌∷◌, length, Option, Some, None, IfSome, refl, sym, ap, ◌∙◌, subst, arith}
-use Rattle.std.specs.List.{All}
-use Rattle.std.specs.FinMap.{get}
-use Rattle.std.proofs.lemmas.List.Elements.{All-from_recursion}
-use Rattle.outside.specs.Tree.{Files}
-use Rattle.outside.specs.Whole.{HoldsFile}
-use Rattle.entry_pages.specs.declared.entries.Entry.{Entry}
-use Rattle.flat_list.specs.Spelling.{Spells}
-use Rattle.circle_lists.specs.Checkpoint.{HoldLists}
-use Rattle.tool_words.specs.Limits.{Valid}
-use Rattle.tree_walk.specs.Walk.{answer_in, entry_of}
-use Rattle.tree_walk.specs.Roots.{RootsAreUnique}
-use Rattle.tree_walk.specs.Cut.{IsCut}
-use Rattle.run_report.specs.Sides.{Side}
-use Rattle.checkpoints.specs.Kept.{IsKept, IsCheckpoint, list_path}
-use Rattle.checkpoints.specs.Laws.{CheckpointsAreOne}
-use Rattle.cut_laws.specs.Local.{CutsAreLocal}
-use Rattle.stage_report.specs.Stages.{all_of, Begins}
-use Rattle.stage_report.specs.Laws.{BeginsWalk}
+use Rattle.stage_report.proofs.Prelude.{◌≡◌, ℕ, ◌<◌, List, [], ◌∷◌, length, Option, Some, None, IfSome, refl, sym, ap, ◌∙◌, subst, arith, All, get}
+use Rattle.stage_report.proofs.Prelude.{All-from_recursion, Files, HoldsFile, Entry, Spells, HoldLists, Valid, answer_in, entry_of, RootsAreUnique, IsCut, Side}
+use Rattle.stage_report.proofs.Prelude.{IsKept, IsCheckpoint, list_path, CheckpointsAreOne, CutsAreLocal, all_of, Begins, BeginsWalk}
 
 -- what is so of files that tell their tree
 pub of_told : (P : Files → Type 0) (tree : Option Files) (files : Files) → tree ≡ Some files → IfSome tree P → P files

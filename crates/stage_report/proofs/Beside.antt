@@ -1,15 +1,7 @@
 -- Nothing done is at or under a left string that is placed.
-use Rattle.std.proofs.Common.{◌≡◌, false, ◌&&◌, ◌||◌, List, [], ◌∷◌, refl, ap, ◌∙◌, ℕ}
-use Rattle.std.specs.Prelude.{nat_lt, not}
-use Rattle.std.specs.List.{AllByRecursion, list_any, count_by}
-use Rattle.std.proofs.lemmas.Bool.{or_parts}
-use Rattle.std.proofs.lemmas.List.Elements.{All-from_recursion, recursion_from_All}
-use Rattle.entry_pages.specs.declared.entries.Entry.{Entry}
-use Rattle.tree_walk.specs.Roots.{is_in, is_in_some}
-use Rattle.tree_walk.proofs.Lists.{swapped}
-use Rattle.checkpoints.specs.Placing.{clashes, is_misplaced, ArePlaced, is_open}
-use Rattle.stage_report.specs.Private.{IsBeside}
-use Rattle.outside.proofs.Names.{all_weaker}
+use Rattle.stage_report.proofs.Prelude.{◌≡◌, false, ◌&&◌, ◌||◌, List, [], ◌∷◌, refl, ap, ◌∙◌, ℕ, nat_lt, not, AllByRecursion, list_any, count_by, or_parts}
+use Rattle.stage_report.proofs.Prelude.{All-from_recursion, recursion_from_All, Entry, is_in, is_in_some, swapped, clashes, is_misplaced, ArePlaced, is_open}
+use Rattle.stage_report.proofs.Prelude.{IsBeside, all_weaker}
 
 -- ---- what is not misplaced
 

@@ -1,9 +1,5 @@
 -- A stage that stops leaves a cut of the walk.
-use Rattle.std.proofs.Common.{◌≡◌, ℕ, ◌<◌, List, [], length, ap, arith}
-use Rattle.tree_walk.specs.Cut.{IsCut, CutGoesOn}
-use Rattle.checkpoints.specs.Kept.{IsKept}
-use Rattle.stage_report.specs.Stages.{all_of}
-use Rattle.stage_report.specs.Laws.{CheckpointsAreCuts}
+use Rattle.stage_report.proofs.Prelude.{◌≡◌, ℕ, ◌<◌, List, [], length, ap, arith, IsCut, CutGoesOn, IsKept, all_of, CheckpointsAreCuts}
 use Rattle.stage_report.proofs.Begun.{Laws, of_told, begins_at_cut}
 
 -- where strings are left there is a rank

@@ -1,42 +1,18 @@
 -- What a stage walks against which nothing stands is fine, and no more than a list may have.
-use Rattle.std.proofs.Common.{◌≡◌, ⊎_elim, ℕ, ◌+◌, ◌<◌, ◌≤◌, true, false, List, [], ◌∷◌, ◌++◌, map, length, length-append, Option, Some, None, IfSome}
-use Rattle.std.proofs.Common.{refl, ap, sym, subst, arith}
-use Rattle.std.specs.Option.{is_some}
-use Rattle.std.specs.List.{All, AllByRecursion, sum_by, flat_map}
-use Rattle.std.specs.List.Sorted.{IsStrictlySortedBy, IsPermutation}
-use Rattle.std.specs.FinMap.{get}
-use Rattle.std.proofs.lemmas.Bool.{cases_lt}
-use Rattle.std.proofs.lemmas.List.Elements.{recursion_from_All, All-from_recursion}
-use Rattle.std.proofs.lemmas.List.Concat.{length-flat_map}
-use Rattle.std.proofs.lemmas.List.Sorted.{sum_by-IsPermutation, length_permutation, IsPermutation-refl}
-use Rattle.path_text.specs.Order.{path_cmp}
-use Rattle.outside.specs.Tree.{Files, IsTree}
-use Rattle.outside.specs.Count.{StoodStill}
-use Rattle.outside.proofs.Names.{all_weaker}
+use Rattle.stage_report.proofs.Prelude.{◌≡◌, ⊎_elim, ℕ, ◌+◌, ◌<◌, ◌≤◌, true, false, List, [], ◌∷◌, ◌++◌, map, length, length-append, Option, Some, None, IfSome}
+use Rattle.stage_report.proofs.Prelude.{refl, ap, sym, subst, arith, is_some, All, AllByRecursion, sum_by, flat_map, IsStrictlySortedBy, IsPermutation, get}
+use Rattle.stage_report.proofs.Prelude.{cases_lt, recursion_from_All, All-from_recursion, length-flat_map, sum_by-IsPermutation, length_permutation}
+use Rattle.stage_report.proofs.Prelude.{IsPermutation-refl, path_cmp, Files, IsTree, StoodStill, all_weaker, Entry, mark_whys, number_whys, whys_of, notes_of}
+use Rattle.stage_report.proofs.Prelude.{Valid, walk, all_told, answers_in, weight_of, WalkWithoutFaultsIsFine, IsRoots, RootsAreUnique, max_entries, IsFound}
+use Rattle.stage_report.proofs.Prelude.{IsWalkOf, IsCut, IsCutFound, IsJoined, moved, in_order, Side, IsFineWalk, on_side, failures_in, CheckpointsAreOne}
+use Rattle.stage_report.proofs.Prelude.{all_of, Begins, IsFineCheckpoint, IsFineBeginning, none_counted, all_join}
 use Rattle.path_text.proofs.Parts as parts
-use Rattle.entry_pages.specs.declared.entries.Entry.{Entry}
 use Rattle.entry_pages.specs.declared.entries.Mark.TheVariants as mark
 use Rattle.tool_text.specs.declared.noting.Why.TheVariants as why
-use Rattle.tool_text.specs.Notes.{mark_whys, number_whys, whys_of, notes_of}
-use Rattle.tool_words.specs.Limits.{Valid}
-use Rattle.tree_walk.specs.Walk.{walk, all_told, answers_in, weight_of, WalkWithoutFaultsIsFine}
-use Rattle.tree_walk.specs.Roots.{IsRoots, RootsAreUnique}
-use Rattle.flat_list.specs.Spelling.{max_entries}
-use Rattle.tree_walk.specs.Found.{IsFound, IsWalkOf}
-use Rattle.tree_walk.specs.Cut.{IsCut, IsCutFound, IsJoined}
-use Rattle.tree_walk.proofs.AnyOrder.{moved}
-use Rattle.tree_walk.proofs.Ordered.{in_order}
-use Rattle.run_report.specs.Sides.{Side}
-use Rattle.run_entries.specs.Fine.{IsFineWalk}
-use Rattle.run_entries.specs.Naming.{on_side, failures_in}
-use Rattle.checkpoints.specs.Laws.{CheckpointsAreOne}
-use Rattle.stage_report.specs.Stages.{all_of, Begins, IsFineCheckpoint, IsFineBeginning}
 use Rattle.stage_report.proofs.Begun.{of_told, goes_on}
 use Rattle.stage_report.proofs.Placed.{few_cover, left_valid, own_roots}
 use Rattle.stage_report.proofs.Printing.{roots_valid}
 use Rattle.stage_report.proofs.Lengths.{number, done_few}
-use Rattle.path_looks.proofs.Told.{none_counted}
-use Rattle.flat_list.proofs.Pieces.{all_join}
 
 -- ---- entries that name nothing
 

@@ -1,28 +1,10 @@
 -- Lists of several stages: what is joined can be written.
-use Rattle.std.proofs.Common.{◌≡◌, ℕ, ◌+◌, ◌≤◌, Bool, true, false, List, [], ◌∷◌, ◌++◌, length, zero, suc, get_or, cond, refl, ap, ◌∙◌, sym, subst}
-use Rattle.std.proofs.Common.{arith, eqb}
-use Rattle.std.specs.Prelude.{◌==◌}
-use Rattle.std.specs.List.{AllByRecursion, All, sum_by}
-use Rattle.std.specs.List.Sorted.{IsStrictlySortedBy, IsSortedByKey, IsPermutation}
-use Rattle.std.specs.Ordering.{is_lt, ordering_reverse}
-use Rattle.std.specs.Cmp.Lexicographic.{pointwise, bytes_decides}
-use Rattle.std.specs.declared.cmp.Ordering.TheVariants.{Less}
-use Rattle.std.proofs.lemmas.Bool.{false≢true}
-use Rattle.std.proofs.lemmas.Bool.Decides.{nat_tests}
-use Rattle.std.proofs.lemmas.List.Sums.{sum_by-cons, sum_by-append}
-use Rattle.std.proofs.lemmas.List.Sorted.{IsPermutation-refl, All-permutation, sum_by-IsPermutation}
-use Rattle.std.proofs.lemmas.List.Elements.{All-append, All-nil, recursion_from_All}
-use Rattle.path_text.specs.Order.{path_cmp}
-use Rattle.path_text.specs.Total.{path_cmp_total}
-use Rattle.entry_pages.specs.declared.entries.Entry.{Entry}
-use Rattle.entry_pages.specs.Entries.{is_shaped}
-use Rattle.tree_walk.specs.Walk.{paths_of}
-use Rattle.tree_walk.specs.Cut.{IsJoined}
-use Rattle.tree_walk.specs.Roots.{is_in_some}
-use Rattle.tree_walk.proofs.Covers.{one}
-use Rattle.tree_walk.proofs.Once.{rises}
-use Rattle.tree_walk.proofs.Same.{unequal}
-use Rattle.stage_report.specs.Private.{IsWritable, IsBeside}
+use Rattle.stage_report.proofs.Prelude.{◌≡◌, ℕ, ◌+◌, ◌≤◌, Bool, true, false, List, [], ◌∷◌, ◌++◌, length, zero, suc, get_or, cond, refl, ap, ◌∙◌, sym, subst}
+use Rattle.stage_report.proofs.Prelude.{arith, eqb, ◌==◌, AllByRecursion, All, sum_by, IsSortedByKey, IsPermutation, is_lt, ordering_reverse, pointwise}
+use Rattle.stage_report.proofs.Prelude.{bytes_decides, Less, false≢true, nat_tests, sum_by-cons, sum_by-append, IsPermutation-refl, All-permutation}
+use Rattle.stage_report.proofs.Prelude.{sum_by-IsPermutation, All-append, All-nil, recursion_from_All, path_cmp, path_cmp_total, Entry, is_shaped, paths_of}
+use Rattle.stage_report.proofs.Prelude.{IsJoined, is_in_some, one, rises, unequal, IsWritable, IsBeside}
+use Rattle.std.specs.List.Sorted.{IsStrictlySortedBy}
 
 behind : (x y : List ℕ) → path_cmp x y ≡ Less → is_lt (path_cmp y x) ≡ false
 behind x y less = ap is_lt (path_cmp_total.antisymm y x ∙ ap ordering_reverse less)

@@ -1,19 +1,8 @@
 -- Which paths a stage may have changed.
-use Rattle.std.proofs.Common.{◌≡◌, ℕ, Bool, true, false, ◌||◌, List, [], ◌∷◌, ◌++◌, length, refl, ap, sym, subst, ◌∙◌, Option, Some, None, IfSome, is_some}
-use Rattle.std.specs.Prelude.{nat_eq, Vec}
-use Rattle.std.specs.declared.alloc.Global.{Global}
-use Rattle.std.proofs.lemmas.List.{length-map}
-use Rattle.std.specs.Option.{option_to_list}
-use Rattle.std.specs.List.{list_any}
-use Rattle.std.specs.Cmp.Lexicographic.{pointwise}
-use Rattle.std.proofs.lemmas.Bool.{false≢true}
-use Rattle.outside.specs.Tree.{Files}
-use Rattle.entry_pages.specs.declared.entries.Entry.{Entry}
-use Rattle.tool_words.specs.Asked.{StageAsked}
-use Rattle.run_report.specs.Sides.{Side}
-use Rattle.run_entries.specs.Saving.{SameButAll, SameButOutputs}
-use Rattle.checkpoints.specs.Kept.{checkpoint_paths}
-use Rattle.stage_report.specs.Stages.{LeavesStage, kept_paths}
+use Rattle.stage_report.proofs.Prelude.{◌≡◌, ℕ, Bool, true, false, ◌||◌, List, [], ◌∷◌, ◌++◌, length, refl, ap, sym, subst, ◌∙◌, Option, Some, None, IfSome}
+use Rattle.stage_report.proofs.Prelude.{nat_eq, Vec, Global, length-map, option_to_list, list_any, pointwise, false≢true, Files, Entry, StageAsked, Side}
+use Rattle.stage_report.proofs.Prelude.{SameButAll, SameButOutputs, checkpoint_paths, LeavesStage, kept_paths}
+use Rattle.std.proofs.Common.{is_some}
 use Rattle.stage_report.proofs.Staged.{CutOff}
 
 either : (a b c : Bool) → (c ≡ false → b ≡ false) → (a || c) ≡ false → (a || b) ≡ false

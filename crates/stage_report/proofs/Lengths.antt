@@ -1,16 +1,7 @@
 -- A cut of a walk in which no answer failed has done no more than the walk finds.
-use Rattle.std.proofs.Common.{◌≡◌, ℕ, ◌+◌, ◌≤◌, List, [], ◌∷◌, length, refl, ap, ◌∙◌, sym, arith, suc}
-use Rattle.std.specs.List.{AllByRecursion, sum_by}
-use Rattle.std.proofs.lemmas.List.Sums.{sum_by-cons}
-use Rattle.std.proofs.lemmas.List.Concat.{length-flat_map}
-use Rattle.outside.specs.Tree.{Files, IsTree}
-use Rattle.entry_pages.specs.declared.entries.Entry.{Entry}
-use Rattle.tree_walk.specs.Walk.{told, all_told, answer_in, children_of, walk, weight_of}
-use Rattle.tree_walk.specs.Cut.{IsCut}
-use Rattle.tree_walk.proofs.Recursive.{walk_is}
-use Rattle.tree_walk.proofs.Cuts.{kids, handled_by, pushed_by}
-use Rattle.tree_walk.proofs.Restarts.{over, none_over, kids_over}
-use Rattle.tree_walk.proofs.Lawful.{none_failed}
+use Rattle.stage_report.proofs.Prelude.{◌≡◌, ℕ, ◌+◌, ◌≤◌, List, [], ◌∷◌, length, refl, ap, ◌∙◌, sym, arith, suc, AllByRecursion, sum_by, sum_by-cons}
+use Rattle.stage_report.proofs.Prelude.{length-flat_map, Files, IsTree, Entry, told, all_told, answer_in, children_of, walk, weight_of, IsCut, walk_is, kids}
+use Rattle.stage_report.proofs.Prelude.{handled_by, pushed_by, over, none_over, kids_over, none_failed}
 
 -- ---- each done entry stands for itself and the walks of its children
 

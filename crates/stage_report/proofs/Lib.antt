@@ -1,3 +1,4 @@
+mod Prelude
 pub mod Joins
 pub mod Beside
 pub mod Begun

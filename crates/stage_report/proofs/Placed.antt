@@ -1,30 +1,12 @@
 -- Strings that are left and placed are apart, and those of a checkpoint are valid; so in path order they are their own roots.
-use Rattle.std.proofs.Common.{◌≡◌, inl, inr, ◌⊎◌, ⊎_elim, ℕ, ◌<◌, ◌≤◌, suc, Bool, true, false, ◌&&◌, ◌||◌, cond, List, [], ◌∷◌, length, get_or}
-use Rattle.std.proofs.Common.{refl, ap, ◌∙◌, sym, arith}
-use Rattle.std.specs.Prelude.{◌==◌, nat_lt}
-use Rattle.std.specs.List.{AllByRecursion, Contains, sum_by, count_by, list_any}
-use Rattle.std.proofs.lemmas.Bool.{false≢true, cases_lt, and_parts}
-use Rattle.std.proofs.lemmas.Bool.Decides.{nat_tests}
-use Rattle.std.proofs.lemmas.List.Elements.{recursion_from_All, All-from_recursion, Contains-get_or}
-use Rattle.std.proofs.lemmas.List.Sums.{sum_by-cons}
-use Rattle.std.proofs.lemmas.List.Sorted.{sum_by-IsPermutation}
-use Rattle.path_text.specs.Order.{front}
-use Rattle.outside.specs.Tree.{Files}
-use Rattle.outside.proofs.Names.{all_weaker}
-use Rattle.entry_pages.specs.declared.entries.Entry.{Entry}
+use Rattle.stage_report.proofs.Prelude.{◌≡◌, inl, inr, ◌⊎◌, ⊎_elim, ℕ, ◌<◌, ◌≤◌, suc, Bool, true, false, ◌&&◌, ◌||◌, cond, List, [], ◌∷◌, length, get_or, refl}
+use Rattle.stage_report.proofs.Prelude.{ap, ◌∙◌, sym, arith, ◌==◌, nat_lt, AllByRecursion, Contains, sum_by, count_by, list_any, false≢true, cases_lt}
+use Rattle.stage_report.proofs.Prelude.{and_parts, nat_tests, recursion_from_All, All-from_recursion, Contains-get_or, sum_by-cons, sum_by-IsPermutation, front}
+use Rattle.stage_report.proofs.Prelude.{Files, all_weaker, Entry, HoldLists, Valid, is_in, is_in_some, Apart, IsRoots, all_flat, begins, at_or_under, is_in_is}
+use Rattle.stage_report.proofs.Prelude.{in_trans, In, of_all, each_in, covers, covers-itself, to_apart, some_covers, moved, clashes, is_misplaced, ArePlaced}
+use Rattle.stage_report.proofs.Prelude.{all_of, stands_covered}
 use Rattle.circle_lists.specs.Spelling.{IsWritable}
-use Rattle.circle_lists.specs.Checkpoint.{HoldLists}
-use Rattle.tool_words.specs.Limits.{Valid}
-use Rattle.tree_walk.specs.Roots.{is_in, is_in_some, Apart, IsRoots}
-use Rattle.tree_walk.proofs.Lists.{all_flat}
-use Rattle.tree_walk.proofs.Inside.{begins, at_or_under, is_in_is, in_trans}
-use Rattle.tree_walk.proofs.Standing.{In, of_all, each_in}
-use Rattle.tree_walk.proofs.Covers.{covers, covers-itself, to_apart, some_covers}
-use Rattle.tree_walk.proofs.AnyOrder.{moved}
 use Rattle.tree_walk.proofs.Ordered.{InOrder}
-use Rattle.checkpoints.specs.Placing.{clashes, is_misplaced, ArePlaced}
-use Rattle.stage_report.specs.Stages.{all_of}
-use Rattle.cut_laws.proofs.Local.{stands_covered}
 
 -- ---- of two paths that are both above a path, one is above the other
 

@@ -1,40 +1,12 @@
 -- A stage that goes on from a cut and ends prints what one walk prints.
-use Rattle.std.proofs.Common.{◌≡◌, ℕ, ◌≤◌, Bool, List, [], ◌∷◌, ◌++◌, length, Option, Some, None, refl, sym, ap, ◌∙◌, subst, arith}
-use Rattle.std.specs.List.{All, AllByRecursion, Contains, sum_by, flat_map}
-use Rattle.std.specs.List.Sorted.{IsStrictlySortedBy, IsPermutation}
-use Rattle.std.proofs.lemmas.List.Elements.{recursion_from_All, All-from_recursion}
-use Rattle.std.proofs.lemmas.List.Sorted.{sum_by-IsPermutation}
-use Rattle.path_text.specs.Order.{path_cmp}
-use Rattle.outside.specs.Tree.{Files}
-use Rattle.outside.specs.Count.{StoodStill}
-use Rattle.outside.proofs.Names.{all_weaker}
-use Rattle.entry_pages.specs.declared.entries.Entry.{Entry}
-use Rattle.flat_list.specs.declared.ordering.Field.{Field}
-use Rattle.path_looks.specs.declared.looks.Look.{Look}
-use Rattle.tool_text.specs.Lines.{lines_of}
-use Rattle.tool_text.specs.declared.noting.Note.{Note}
-use Rattle.tool_text.specs.NoteOrder.{AreInOrder, OrderIsUnique}
-use Rattle.tool_words.specs.Asked.{ListAsked, roots}
-use Rattle.tool_words.specs.Limits.{Valid}
-use Rattle.tree_walk.specs.Walk.{walk, answers_in, weight_of, paths_of}
-use Rattle.tree_walk.specs.Roots.{IsRoots, RootsAreUnique}
-use Rattle.tree_walk.specs.Found.{IsWalkOf}
-use Rattle.tree_walk.specs.Cut.{IsJoined}
-use Rattle.tree_walk.proofs.Same.{same_paths}
-use Rattle.tree_walk.proofs.Standing.{in_list, of_all}
-use Rattle.run_report.specs.declared.reports.Report.{Report}
-use Rattle.run_report.specs.Sides.{Side, side_with}
-use Rattle.run_entries.specs.Choosing.{newer_in, tests_in, chosen_of}
-use Rattle.run_entries.specs.Entries.{Walked, Listed, InOrder}
-use Rattle.run_entries.specs.Naming.{failures_in}
-use Rattle.list_report.specs.Lists.{ReportsList, summary_text}
-use Rattle.checkpoints.specs.Laws.{CheckpointsAreOne}
-use Rattle.cut_laws.specs.Local.{RestartFindsTheWalk}
-use Rattle.cut_laws.specs.Sorts.{SortsAreUnique}
-use Rattle.stage_report.specs.Stages.{all_of, Begins}
-use Rattle.stage_report.specs.Laws.{StagesPrintTheWalk}
+use Rattle.stage_report.proofs.Prelude.{◌≡◌, ℕ, ◌≤◌, Bool, List, [], ◌∷◌, ◌++◌, length, Option, Some, None, refl, sym, ap, ◌∙◌, subst, arith, All}
+use Rattle.stage_report.proofs.Prelude.{AllByRecursion, Contains, sum_by, flat_map, IsStrictlySortedBy, IsPermutation, recursion_from_All, All-from_recursion}
+use Rattle.stage_report.proofs.Prelude.{sum_by-IsPermutation, path_cmp, Files, StoodStill, all_weaker, Entry, Field, Look, lines_of, Note, AreInOrder}
+use Rattle.stage_report.proofs.Prelude.{OrderIsUnique, ListAsked, roots, Valid, walk, answers_in, weight_of, paths_of, IsRoots, RootsAreUnique, IsWalkOf}
+use Rattle.stage_report.proofs.Prelude.{IsJoined, same_paths, in_list, of_all, Report, Side, side_with, newer_in, tests_in, chosen_of, Walked, Listed, InOrder}
+use Rattle.stage_report.proofs.Prelude.{failures_in, ReportsList, summary_text, CheckpointsAreOne, RestartFindsTheWalk, SortsAreUnique, all_of, Begins}
+use Rattle.stage_report.proofs.Prelude.{StagesPrintTheWalk, none_counted}
 use Rattle.stage_report.proofs.Begun.{of_told, some_of, goes_on}
-use Rattle.path_looks.proofs.Told.{none_counted}
 
 -- ---- counts
 

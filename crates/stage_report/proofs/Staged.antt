@@ -1,32 +1,11 @@
 -- What a stage reports, and why it stops, from its steps.
-use Rattle.std.proofs.Common.{◌≡◌, ◌⊎◌, ℕ, ◌≤◌, List, [], ◌++◌, length, map, sym, subst, ◌∙◌, inl, inr, Option, None, IfSome}
-use Rattle.std.specs.Prelude.{Result, Ok, Err, IfErr, IsErrAnd, Vec}
-use Rattle.std.specs.declared.alloc.Global.{Global}
-use Rattle.std.proofs.lemmas.List.{length-map}
-use Rattle.outside.specs.Tree.{Files}
-use Rattle.entry_pages.specs.declared.entries.Entry.{Entry}
-use Rattle.tool_text.specs.Lines.{lines_of}
-use Rattle.tool_text.specs.declared.noting.Note.{Note}
-use Rattle.tool_text.specs.NoteOrder.{AreInOrder}
-use Rattle.tool_words.specs.Asked.{StageAsked}
-use Rattle.tool_words.specs.declared.commands.Common.{Common}
-use Rattle.flat_list.specs.Spelling.{max_entries}
-use Rattle.run_report.specs.declared.reports.Report.{Report}
-use Rattle.run_report.specs.declared.stops.Stop.{Stop}
+use Rattle.stage_report.proofs.Prelude.{◌≡◌, ◌⊎◌, ℕ, ◌≤◌, List, [], ◌++◌, length, map, sym, subst, ◌∙◌, inl, inr, Option, None, IfSome, Result, Ok, Err, IfErr}
+use Rattle.stage_report.proofs.Prelude.{IsErrAnd, Vec, Global, length-map, Files, Entry, lines_of, Note, AreInOrder, StageAsked, Common, max_entries, Report}
+use Rattle.stage_report.proofs.Prelude.{Stop, Side, side_with, Account, InOrder, notes_text, failures_in, Saved, output_of, SameButAll, StopsSaving, IsKept}
+use Rattle.stage_report.proofs.Prelude.{checkpoint_paths, StopsReading, StopsWriting, summary_text, Stage, all_of, Begins, Begun, FindsTooMany, IsCutOff}
+use Rattle.stage_report.proofs.Prelude.{ReportsStage, StopsStage, StopsWalk, Walks, WalksNot}
 use Rattle.run_report.specs.declared.stops.Stop.TheVariants as stop
-use Rattle.run_report.specs.Sides.{Side, side_with}
-use Rattle.run_entries.specs.declared.accounts.Account.{Account}
-use Rattle.run_entries.specs.Entries.{InOrder, notes_text}
-use Rattle.run_entries.specs.Naming.{failures_in}
-use Rattle.run_entries.specs.Saving.{Saved, output_of, SameButAll}
-use Rattle.run_entries.specs.Stopping.{StopsSaving}
-use Rattle.checkpoints.specs.Kept.{IsKept, checkpoint_paths}
-use Rattle.checkpoints.specs.Stopping.{StopsReading, StopsWriting}
-use Rattle.list_report.specs.Lists.{summary_text}
-use Rattle.stage_report.specs.declared.walking.Stage.{Stage}
 use Rattle.stage_report.specs.declared.walking.Stage.TheVariants as stage
-use Rattle.stage_report.specs.Stages.{all_of, Begins, Begun, FindsTooMany, IsCutOff, ReportsStage, StopsStage}
-use Rattle.stage_report.specs.Private.{StopsWalk, Walks, WalksNot}
 
 -- ---- how it comes to none
 

@@ -1,12 +1,8 @@
 -- No step but the last tells that a stage stopped.
-use Rattle.std.proofs.Common.{◌≡◌, inl, inr, ◌⊎◌, ℕ, List, length}
-use Rattle.entry_pages.specs.declared.entries.Entry.{Entry}
-use Rattle.circle_lists.specs.declared.errors.ListsError.{ListsError}
+use Rattle.stage_report.proofs.Prelude.{◌≡◌, inl, inr, ◌⊎◌, ℕ, List, length, Entry, ListsError, Side, side_with, stop_of_lists, StopsReading, StopsWriting}
+use Rattle.stage_report.proofs.Prelude.{WroteNoRanks, WroteNoList, StoppedStagesAreKept}
 use Rattle.circle_lists.specs.declared.errors.ListsError.TheVariants as error
 use Rattle.run_report.specs.declared.stops.Stop.TheVariants as stop
-use Rattle.run_report.specs.Sides.{Side, side_with}
-use Rattle.checkpoints.specs.Stopping.{stop_of_lists, StopsReading, StopsWriting, WroteNoRanks, WroteNoList}
-use Rattle.stage_report.specs.Laws.{StoppedStagesAreKept}
 
 -- no error of the ranks' files does
 by_ranks : (e : ListsError) (handled left : ℕ) → stop.Stopped handled left ≡ stop_of_lists e → ⊥

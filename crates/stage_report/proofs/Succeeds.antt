@@ -1,28 +1,12 @@
 -- When a stage succeeds.
-use Rattle.std.proofs.Common.{◌≡◌, inl, inr, ◌⊎◌, ℕ, ◌≤◌, true, length, ap, ◌∙◌, sym, subst, arith}
-use Rattle.std.specs.Option.{is_some}
-use Rattle.std.specs.List.{All}
-use Rattle.outside.specs.Count.{StoodStill}
-use Rattle.tool_text.specs.NoteOrder.{AreInOrder, NothingToOrder}
-use Rattle.tool_words.specs.Asked.{StageAsked}
-use Rattle.tool_words.specs.Limits.{WithinStage}
-use Rattle.tree_walk.specs.Walk.{WalkWithoutFaultsIsFine}
-use Rattle.tree_walk.specs.Roots.{RootsAreUnique}
-use Rattle.tree_walk.specs.Cut.{IsTooMany}
-use Rattle.run_report.specs.declared.reports.Report.{Report}
-use Rattle.run_report.specs.declared.stops.Stop.{Stop}
+use Rattle.stage_report.proofs.Prelude.{◌≡◌, inl, inr, ◌⊎◌, ℕ, ◌≤◌, true, length, ap, ◌∙◌, sym, subst, arith, is_some, All, StoodStill, AreInOrder}
+use Rattle.stage_report.proofs.Prelude.{NothingToOrder, StageAsked, WithinStage, WalkWithoutFaultsIsFine, RootsAreUnique, IsTooMany, Report, Stop, Side}
+use Rattle.stage_report.proofs.Prelude.{side_with, FinePlacesStopForMemory, output_of, checkpoint_paths, CheckpointsAreOne, FineReadsStopForMemory}
+use Rattle.stage_report.proofs.Prelude.{FineWritesStopForMemory, IsFree, Begun, kept_paths, FindsTooMany, ReportsStage, StopsBeginning, StopsSavingStage}
+use Rattle.stage_report.proofs.Prelude.{StopsKeeping, StopsStage, IsFineBeginning, FineStage, FineStageSucceeds, has_place}
 use Rattle.run_report.specs.declared.stops.Stop.TheVariants as stop
-use Rattle.run_report.specs.Sides.{Side, side_with}
-use Rattle.run_entries.specs.Fine.{FinePlacesStopForMemory}
-use Rattle.run_entries.specs.Saving.{output_of}
-use Rattle.checkpoints.specs.Kept.{checkpoint_paths}
-use Rattle.checkpoints.specs.Laws.{CheckpointsAreOne, FineReadsStopForMemory, FineWritesStopForMemory, IsFree}
-use Rattle.stage_report.specs.Stages.{Begun, kept_paths, FindsTooMany, ReportsStage, StopsBeginning, StopsSavingStage}
-use Rattle.stage_report.specs.Stages.{StopsKeeping, StopsStage, IsFineBeginning, FineStage}
-use Rattle.stage_report.specs.Laws.{FineStageSucceeds}
 use Rattle.stage_report.proofs.Printing.{stood_within}
 use Rattle.stage_report.proofs.Fine.{IsFineBegun, most_of, begun_fine, found_fine, cut_few, joined_fine, joined_few, no_failures}
-use Rattle.list_report.proofs.Succeeds.{has_place}
 
 -- the laws that this rests on
 pub record Laws : Type 0 where

@@ -1,27 +1,12 @@
 -- What the walk of a stage comes to.
-use Rattle.std.proofs.Common.{◌≡◌, ℕ, ◌<◌, ◌≤◌, ◌-◌, ◌^◌, true, List, [], ◌∷◌, ◌++◌, length, map, min, refl, ap, ◌∙◌, sym, subst, arith, inl, inr}
-use Rattle.std.proofs.Common.{Option, Some, All, Any, length-append}
-use Rattle.std.specs.List.{sum_by}
-use Rattle.std.specs.Prelude.{Vec}
-use Rattle.std.specs.declared.alloc.Global.{Global}
-use Rattle.std.proofs.lemmas.List.{get_or_append_left, get_or-map, length-map}
-use Rattle.outside.specs.Tree.{Files}
-use Rattle.entry_pages.specs.declared.entries.Entry.{Entry}
-use Rattle.circle_run.specs.Left.{all_left}
-use Rattle.tool_words.specs.declared.commands.Common.{Common}
-use Rattle.tree_walk.specs.declared.reports.WalkReport.{WalkReport}
+use Rattle.stage_report.proofs.Prelude.{◌≡◌, ℕ, ◌<◌, ◌≤◌, ◌-◌, ◌^◌, true, List, [], ◌∷◌, ◌++◌, length, map, min, refl, ap, ◌∙◌, sym, subst, arith, inl, inr}
+use Rattle.stage_report.proofs.Prelude.{Option, Some, Any, length-append, sum_by, Vec, Global, get_or_append_left, get_or-map, length-map, Files, Entry}
+use Rattle.stage_report.proofs.Prelude.{all_left, Common, WalkReport, paths_of, is_in_some, max_entries, IsFound, IsCutFound, IfCut, found_in, IsProgressTo}
+use Rattle.stage_report.proofs.Prelude.{Stage, all_of, IsStoppable, list_in, IsBeside, IsStage, IsStageOf, IsWritable, StopsWalk}
+use Rattle.std.proofs.Common.{All}
 use Rattle.tree_walk.specs.declared.reports.Walked.TheVariants as walked
-use Rattle.tree_walk.specs.Walk.{paths_of}
-use Rattle.tree_walk.specs.Roots.{is_in_some}
-use Rattle.flat_list.specs.Spelling.{max_entries}
-use Rattle.tree_walk.specs.Found.{IsFound}
-use Rattle.tree_walk.specs.Cut.{IsCutFound, IfCut, found_in}
-use Rattle.tree_walk.specs.Traced.{IsProgressTo}
 use Rattle.run_report.specs.declared.stops.Stop.TheVariants as stop
-use Rattle.stage_report.specs.declared.walking.Stage.{Stage}
 use Rattle.stage_report.specs.declared.walking.Stage.TheVariants as stage
-use Rattle.stage_report.specs.Stages.{all_of, IsStoppable}
-use Rattle.stage_report.specs.Private.{list_in, IsBeside, IsStage, IsStageOf, IsWritable, StopsWalk}
 use Rattle.stage_report.proofs.Joins.{joined_writable}
 
 -- ---- a stage that walks

@@ -1,14 +1,8 @@
 -- How plain sums begin.
-use Rattle.std.proofs.Common.{◌≡◌, ℕ, ◌+◌, ◌<◌, ◌≤◌, refl, sym, subst, ap, ◌∙◌, arith, length, get_or, replicate, zero-add}
-use mathlib.Core.Logic.{dite}
-use native.Mathlib.Decide.{dec_le}
-use Rattle.std.proofs.lemmas.Bool.{false≢true}
-use Rattle.std.proofs.lemmas.List.{get_or-replicate, get_or_past, length-replicate}
-use Rattle.std.proofs.lemmas.List.FromFn.{get_or-map-range_with_len}
-use Rattle.sum_tree.specs.Told.{SumTold, uncounted, rank_of, count_of, word_of, words_below}
-use Rattle.sum_tree.specs.Shown.{SumShown}
-use Rattle.sum_tree.specs.Plain.{IsSeat, started, fresh, fresh_seats}
-use Rattle.sum_tree.specs.declared.ranks.RankSum.{RankSum}
+use Rattle.sum_tree.proofs.Prelude.{◌≡◌, ℕ, ◌+◌, ◌<◌, ◌≤◌, refl, sym, subst, ap, ◌∙◌, arith, length, get_or, replicate, zero-add, dite, dec_le, false≢true}
+use Rattle.sum_tree.proofs.Prelude.{get_or-replicate, get_or_past, length-replicate, get_or-map-range_with_len, SumTold, uncounted, rank_of, count_of, word_of}
+use Rattle.sum_tree.proofs.Prelude.{words_below, SumShown, started, fresh_seats, RankSum}
+use Rattle.sum_tree.specs.Plain.{IsSeat, fresh}
 use Rattle.sum_tree.proofs.Rules.{sound_where}
 
 nothing : (n width r : ℕ) → rank_of (started n width) r ≡ uncounted

@@ -1,24 +1,10 @@
 -- Seats that come together, the last one first.
-use Rattle.std.proofs.Common.{◌≡◌, ℕ, ◌+◌, ◌<◌, refl, sym, subst, ap, ◌∙◌, arith, true, List, [], ◌∷◌, ◌++◌}
-use Rattle.std.proofs.Common.{length, length-append, get_or, sum_by, Option, Some, None, is_some, IsSome}
-use Rattle.std.proofs.Common.{false}
-use Rattle.std.specs.Prelude.{unwrap_or}
-use Rattle.std.proofs.Math.Seq.{get_or-append_seam}
-use Rattle.std.specs.List.{Contains, range_with_len}
-use Rattle.std.proofs.lemmas.List.Elements.{Contains-get_or}
-use Rattle.std.proofs.lemmas.List.Sorted.{Contains-permutation, length_permutation, sum_by-IsPermutation}
-use Rattle.std.proofs.lemmas.Simd.{pick_l_whole}
-use Rattle.ring_core.proofs.TogetherLemmas.{spare, numbered, alone, Brings, Gathered, comes_first, came, comes_next, all_know, first_says}
-use Rattle.atomic_table.specs.Seated.{TableId}
-use Rattle.sum_tree.specs.Shown.{AllFinished}
+use Rattle.sum_tree.proofs.Prelude.{◌≡◌, ℕ, ◌+◌, ◌<◌, refl, sym, subst, ap, ◌∙◌, arith, true, List, [], ◌∷◌, ◌++◌, length, length-append, get_or, sum_by}
+use Rattle.sum_tree.proofs.Prelude.{Option, Some, None, is_some, IsSome, false, unwrap_or, get_or-append_seam, Contains, range_with_len, Contains-get_or}
+use Rattle.sum_tree.proofs.Prelude.{Contains-permutation, length_permutation, sum_by-IsPermutation, pick_l_whole, spare, numbered, alone, Brings, Gathered}
+use Rattle.sum_tree.proofs.Prelude.{comes_first, came, comes_next, all_know, first_says, TableId, AllFinished, both, SeatState, Totals, IsSeat, shown_by}
+use Rattle.sum_tree.proofs.Prelude.{first_answer, Known, View, SumTree, SumSeat}
 use Rattle.sum_tree.proofs.Ranges.{sum_of_map, same_sums}
-use Rattle.sum_tree.specs.TreeRule.{both}
-use Rattle.sum_tree.specs.TreeSteps.{SeatState, Totals}
-use Rattle.sum_tree.specs.TreeSeats.{IsSeat, shown_by, first_answer}
-use Rattle.sum_tree.specs.declared.tree_views.Known.{Known}
-use Rattle.sum_tree.specs.declared.tree_views.View.{View}
-use Rattle.sum_tree.specs.declared.sum_trees.SumTree.{SumTree}
-use Rattle.sum_tree.specs.declared.sum_trees.SumSeat.{SumSeat}
 
 some_of : (o : Option ℕ) → IsSome o → o ≡ Some (unwrap_or o 0)
 some_of None some = absurd (let e : false ≡ true = some in cc)

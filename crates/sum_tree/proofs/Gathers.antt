@@ -1,15 +1,9 @@
 -- The final sum of rank 0 is the sum of the counts that all seats show.
-use Rattle.std.proofs.Common.{◌≡◌, ℕ, ◌<◌, ◌≤◌, refl, sym, subst, ap, ◌∙◌, arith, true, false, List, length, get_or, sum_by}
-use Rattle.std.proofs.Common.{Option, Some, None, is_some, IsSome, IfSome}
-use Rattle.std.specs.List.{Contains, range_with_len}
-use Rattle.std.proofs.lemmas.List.{get_or_read}
-use Rattle.std.proofs.lemmas.List.Sorted.{Contains-permutation, IsPermutation-sym, length_permutation, sum_by-IsPermutation}
-use Rattle.std.proofs.lemmas.Simd.{pick_l_whole}
-use Rattle.ring_core.proofs.TogetherLemmas.{spare}
-use Rattle.sum_tree.specs.Told.{SumTold, uncounted, rank_of, count_of, word_of, is_final}
-use Rattle.sum_tree.specs.Shown.{SumShown, AllFinished}
+use Rattle.sum_tree.proofs.Prelude.{◌≡◌, ℕ, ◌<◌, ◌≤◌, refl, sym, subst, ap, ◌∙◌, arith, true, false, List, length, get_or, sum_by, Option, Some, None, is_some}
+use Rattle.sum_tree.proofs.Prelude.{IsSome, IfSome, Contains, range_with_len, get_or_read, Contains-permutation, IsPermutation-sym, length_permutation}
+use Rattle.sum_tree.proofs.Prelude.{sum_by-IsPermutation, pick_l_whole, spare, SumTold, uncounted, rank_of, count_of, word_of, is_final, SumShown, AllFinished}
+use Rattle.sum_tree.proofs.Prelude.{RankSum}
 use Rattle.sum_tree.specs.Plain.{IsSeat}
-use Rattle.sum_tree.specs.declared.ranks.RankSum.{RankSum}
 use Rattle.sum_tree.proofs.Ranges.{same_sums, sum_of_map}
 use Rattle.sum_tree.proofs.Trees.{sum_of_all}
 

@@ -1,9 +1,5 @@
 -- What the rule says of every moment.
-use Rattle.std.proofs.Common.{ℕ, ◌∙◌, sym, ap}
-use Rattle.sum_tree.specs.Steps.{coded}
-use Rattle.sum_tree.specs.declared.ranks.RankSum.{RankSum}
-use Rattle.sum_tree.specs.TreeRule.{TableState, Rule, row_of}
-use Rattle.sum_tree.specs.TreeMoments.{WordsAreTold, SeatsAreTold}
+use Rattle.sum_tree.proofs.Prelude.{ℕ, ◌∙◌, sym, ap, coded, RankSum, TableState, Rule, row_of, WordsAreTold, SeatsAreTold}
 use Rattle.sum_tree.proofs.WordSteps.{row_at}
 
 pub words_told : (n width : ℕ) (s : TableState) (o : Rule n width s) → WordsAreTold n width s o

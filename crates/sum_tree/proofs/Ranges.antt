@@ -1,10 +1,7 @@
 -- Sums and tests over neighbouring numbers.
-use Rattle.std.proofs.Common.{◌≡◌, ℕ, zero, suc, ◌+◌, ◌*◌, ◌<◌, ◌≤◌, refl, sym, subst, ap, ◌∙◌, arith, add-zero, zero-add, suc-mul, suc-add, Bool}
-use Rattle.std.proofs.Common.{true, ◌&&◌, List, map, [], ◌∷◌, ◌++◌, sum_by}
-use Rattle.std.specs.List.{range_with_len, list_all}
-use mathlib.Core.Logic.{dite}
-use native.Mathlib.Decide.{ℕ_discrete}
-use Rattle.std.proofs.lemmas.List.Sums.{sum_by-cons, sum_by-append}
+use Rattle.sum_tree.proofs.Prelude.{◌≡◌, ℕ, zero, suc, ◌+◌, ◌*◌, ◌<◌, ◌≤◌, refl, sym, subst, ap, ◌∙◌, arith, add-zero, zero-add, suc-add, Bool, true, ◌&&◌}
+use Rattle.sum_tree.proofs.Prelude.{List, map, [], ◌∷◌, ◌++◌, sum_by, range_with_len, list_all, dite, ℕ_discrete, sum_by-cons, sum_by-append}
+use Rattle.std.proofs.Common.{suc-mul}
 use Rattle.path_text.proofs.Told.{both}
 
 -- what holds of the numbers of a range

@@ -1,23 +1,10 @@
 -- The words of children are read one after the other.
-use Rattle.std.proofs.Common.{◌≡◌, ℕ, ◌+◌, ◌-◌, ◌*◌, ◌/◌, ◌%◌, ◌==◌, ◌^◌, ◌<◌, ◌≤◌, ◌≢◌, refl, sym, subst, ap, ◌∙◌, arith, true, min, List}
-use Rattle.std.proofs.Common.{[], ◌∷◌, ◌++◌, length, get_or, set, get_or-set_same, get_or-set_other, length-set, append_assoc, sum_by, is_some}
-use Rattle.std.proofs.Common.{Bool, false, ◌&&◌, eq-eqb, ne_eqb}
-use Rattle.std.specs.List.{range_with_len, list_all}
-use Rattle.std.proofs.lemmas.List.{append-nil, map-append}
-use Rattle.std.proofs.lemmas.List.Sums.{sum_by-append, sum_by-cons}
-use Rattle.std.proofs.lemmas.List.Elements.{All-nil, All-cons, All-append}
-use mathlib.Core.Logic.{dite}
-use native.Mathlib.Decide.{ℕ_discrete}
-use Rattle.sum_tree.specs.Steps.{Reads, number_read, is_final_read}
-use Rattle.sum_tree.specs.declared.ranks.Reading.{Reading}
+use Rattle.sum_tree.proofs.Prelude.{◌≡◌, ℕ, ◌+◌, ◌-◌, ◌*◌, ◌/◌, ◌%◌, ◌==◌, ◌^◌, ◌<◌, ◌≤◌, ◌≢◌, refl, sym, subst, ap, ◌∙◌, arith, true, min, List, [], ◌∷◌, ◌++◌}
+use Rattle.sum_tree.proofs.Prelude.{length, get_or, set, get_or-set_same, get_or-set_other, length-set, append_assoc, sum_by, is_some, Bool, false, ◌&&◌}
+use Rattle.sum_tree.proofs.Prelude.{eq-eqb, ne_eqb, range_with_len, list_all, append-nil, map-append, sum_by-append, sum_by-cons, All-nil, All-cons, All-append}
+use Rattle.sum_tree.proofs.Prelude.{dite, ℕ_discrete, Reads, number_read, is_final_read, Reading, seen_of, below, SeatState, knowing, after_load, IsSeat}
+use Rattle.sum_tree.proofs.Prelude.{Loaded, LoadedFinal, Blocked, Known, SumTree, SumSeat}
 use Rattle.sum_tree.proofs.Ranges.{same_sums, less_sums, joined_ranges, joined_sums}
-use Rattle.sum_tree.specs.TreeRule.{seen_of, below}
-use Rattle.sum_tree.specs.TreeSteps.{SeatState, knowing, after_load}
-use Rattle.sum_tree.specs.TreeSeats.{IsSeat}
-use Rattle.sum_tree.specs.TreeReads.{Loaded, LoadedFinal, Blocked}
-use Rattle.sum_tree.specs.declared.tree_views.Known.{Known}
-use Rattle.sum_tree.specs.declared.sum_trees.SumTree.{SumTree}
-use Rattle.sum_tree.specs.declared.sum_trees.SumSeat.{SumSeat}
 
 one_range : (a k : ℕ) → range_with_len a (k + 1) ≡ range_with_len a k ++ (a + k) ∷ []
 one_range a k = joined_ranges a k 1

@@ -1,10 +1,6 @@
 -- The children of a rank stand side by side.
-use Rattle.std.proofs.Common.{◌≡◌, ℕ, ◌+◌, ◌-◌, ◌*◌, ◌<◌, sym, ap, ◌∙◌, arith, min, List, length, map, take, drop, sum_by}
-use Rattle.std.specs.List.{range_with_len, list_all}
-use Rattle.std.proofs.lemmas.Simd.{pick_l-range_with_len}
-use Rattle.std.proofs.lemmas.List.Folds.{list_all-map}
-use Rattle.sum_tree.specs.Told.{SumTold, uncounted, rank_of, children_in, words_below, are_final_below}
-use Rattle.sum_tree.specs.declared.ranks.RankSum.{RankSum}
+use Rattle.sum_tree.proofs.Prelude.{◌≡◌, ℕ, ◌+◌, ◌-◌, ◌*◌, ◌<◌, sym, ap, ◌∙◌, arith, min, List, length, map, take, drop, sum_by, range_with_len, list_all}
+use Rattle.sum_tree.proofs.Prelude.{pick_l-range_with_len, list_all-map, SumTold, uncounted, rank_of, children_in, words_below, are_final_below, RankSum}
 use Rattle.sum_tree.proofs.Ranges.{sum_of_map}
 
 pub rows_are : (t : SumTold) (r first count : ℕ) → first ≡ r * t.width + 1 → first < length t.ranks → count ≡ min t.width (length t.ranks - first)

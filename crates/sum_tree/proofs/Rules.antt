@@ -1,15 +1,9 @@
 -- One rank's count and word change, and the rule of plain sums is kept.
-use Rattle.std.proofs.Common.{◌≡◌, ℕ, ◌+◌, ◌-◌, ◌*◌, ◌^◌, ◌<◌, ◌≤◌, ◌≢◌, sym, subst, ap, ◌∙◌, arith, min, true, false, length, get_or-set_same}
-use Rattle.std.proofs.Common.{get_or-set_other, length-set, sum_by, mul-le-mul_right}
-use mathlib.Core.Logic.{dite}
-use native.Mathlib.Decide.{ℕ_discrete, dec_le}
-use Rattle.std.specs.List.{list_all}
-use Rattle.std.proofs.lemmas.List.{get_or_past}
-use Rattle.std.proofs.lemmas.Bool.{false≢true}
-use Rattle.sum_tree.specs.Tree.{children}
-use Rattle.sum_tree.specs.Told.{SumTold, uncounted, rank_of, count_of, word_of, is_final, children_in, sum_in, words_below, are_final_below, Sound, put_rank}
+use Rattle.sum_tree.proofs.Prelude.{◌≡◌, ℕ, ◌+◌, ◌-◌, ◌*◌, ◌^◌, ◌<◌, ◌≤◌, ◌≢◌, sym, subst, ap, ◌∙◌, arith, min, true, false, length, get_or-set_same}
+use Rattle.sum_tree.proofs.Prelude.{get_or-set_other, length-set, sum_by, mul-le-mul_right, dite, ℕ_discrete, dec_le, list_all, get_or_past, false≢true}
+use Rattle.sum_tree.proofs.Prelude.{children, SumTold, uncounted, rank_of, count_of, word_of, is_final, children_in, sum_in, words_below, are_final_below}
+use Rattle.sum_tree.proofs.Prelude.{Sound, put_rank, RankSum}
 use Rattle.sum_tree.specs.Plain.{Rule}
-use Rattle.sum_tree.specs.declared.ranks.RankSum.{RankSum}
 use Rattle.sum_tree.proofs.Ranges.{Within, same_sums, less_sums, sum_bounded, tested_at, tests_all}
 use Rattle.sum_tree.proofs.Trees.{child_after, sum_is, sum_within_all, words_at_most, words_exact}
 

@@ -1,13 +1,7 @@
 -- Seats are made and taken in.
-use Rattle.std.proofs.Common.{◌≡◌, ℕ, ◌<◌, refl, sym, subst, ap, ◌∙◌, arith, true}
-use mathlib.Core.Option.{none}
-use Rattle.atomic_table.specs.Table.{Splits, Joins, step, Allows}
-use Rattle.sum_tree.specs.TreeRule.{Rule, fresh, dealing, dealt_out, both, spent}
-use Rattle.sum_tree.specs.declared.tree_views.Known.{Known}
-use Rattle.sum_tree.specs.declared.tree_views.View.{View}
-use Rattle.ring_core.proofs.SeatLemmas.{seat_deals, seat_joins}
+use Rattle.sum_tree.proofs.Prelude.{◌≡◌, ℕ, ◌<◌, refl, sym, subst, ap, ◌∙◌, arith, true, none, Splits, Joins, step, Allows, Rule, fresh, dealing, dealt_out}
+use Rattle.sum_tree.proofs.Prelude.{both, spent, Known, View, seat_deals, seat_joins, SeatState, LastLookTells}
 use Rattle.sum_tree.proofs.WordSteps.{seats_of, rule_with, allows_sum}
-use Rattle.sum_tree.specs.TreeSteps.{SeatState, LastLookTells}
 
 -- split seat: the next seat is made
 pub deals : (n width id : ℕ) (v : View) → 0 < v.made → v.made < v.own.n → v.live ≡ true → Splits (Rule n width) id v (dealing v) (dealt_out v)

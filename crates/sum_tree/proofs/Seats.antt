@@ -1,11 +1,8 @@
 -- A call of one seat keeps all seats of plain sums.
-use Rattle.std.proofs.Common.{◌≡◌, ℕ, ◌+◌, ◌-◌, ◌<◌, ◌≤◌, ◌≢◌, ◌^◌, refl, sym, subst, ap, ◌∙◌, arith, true, false, length, length-set}
-use Rattle.std.proofs.Common.{get_or-set_same, get_or-set_other, Option, Some, None, IfSome, is_some}
-use Rattle.std.proofs.lemmas.Bool.{false≢true}
-use Rattle.sum_tree.specs.Told.{SumTold, uncounted, rank_of, count_of, word_of, is_final, words_below, are_final_below, sum_in, raised_by, put_rank}
-use Rattle.sum_tree.specs.Shown.{SumShown, rank_shown, raised, refreshed, finished}
+use Rattle.sum_tree.proofs.Prelude.{◌≡◌, ℕ, ◌+◌, ◌-◌, ◌<◌, ◌≤◌, ◌≢◌, ◌^◌, refl, sym, subst, ap, ◌∙◌, arith, true, false, length, length-set, get_or-set_same}
+use Rattle.sum_tree.proofs.Prelude.{get_or-set_other, Option, Some, None, IfSome, is_some, false≢true, SumTold, uncounted, rank_of, count_of, word_of, is_final}
+use Rattle.sum_tree.proofs.Prelude.{words_below, are_final_below, sum_in, raised_by, put_rank, SumShown, rank_shown, raised, refreshed, finished, RankSum}
 use Rattle.sum_tree.specs.Plain.{IsSeat}
-use Rattle.sum_tree.specs.declared.ranks.RankSum.{RankSum}
 use Rattle.sum_tree.proofs.Rules.{Grows, rule_after, sound_after, fits, sum_where_final}
 
 -- a call after which the seat shows this

@@ -1,17 +1,11 @@
 -- The table of sums at the start.
-use Rattle.std.proofs.Common.{◌≡◌, ℕ, zero, suc, ◌<◌, ◌≤◌, refl, sym, subst, ap, ◌∙◌, arith, false, List, []}
-use Rattle.std.proofs.Common.{map, replicate, length, get_or}
-use Rattle.std.specs.List.{range_with_len}
-use Rattle.std.proofs.lemmas.List.{ext_get_or, get_or-replicate, length-replicate}
-use Rattle.std.proofs.lemmas.List.FromFn.{length-map-range_with_len, get_or-map-range_with_len}
-use Rattle.atomic_table.specs.Table.{opening}
-use Rattle.sum_tree.specs.Told.{uncounted}
-use Rattle.sum_tree.specs.Plain.{IsSeat, fresh as fresh_shown}
-use Rattle.sum_tree.specs.declared.ranks.RankSum.{RankSum}
-use Rattle.ring_core.proofs.SeatLemmas.{first_seat}
+use Rattle.sum_tree.proofs.Prelude.{◌≡◌, ℕ, zero, suc, ◌<◌, ◌≤◌, refl, sym, subst, ap, ◌∙◌, arith, false, List, [], map, replicate, length, get_or}
+use Rattle.sum_tree.proofs.Prelude.{range_with_len, ext_get_or, get_or-replicate, length-replicate, length-map-range_with_len, get_or-map-range_with_len}
+use Rattle.sum_tree.proofs.Prelude.{opening, uncounted, RankSum, first_seat, Rule, row_of, told_of, seen_of, fresh, opened}
+use Rattle.sum_tree.specs.Plain.{IsSeat}
+use Rattle.sum_tree.specs.Plain.{fresh as fresh_shown}
 use Rattle.sum_tree.proofs.Begins.{fresh_is_seat}
 use Rattle.sum_tree.proofs.WordSteps.{face, rule_with}
-use Rattle.sum_tree.specs.TreeRule.{Rule, row_of, told_of, seen_of, fresh, opened}
 
 pub never : (n r : ℕ) → get_or (replicate n false) r false ≡ false
 never zero r = refl

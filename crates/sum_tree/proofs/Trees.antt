@@ -1,9 +1,7 @@
 -- The sums of a tree of ranks.
-use Rattle.std.proofs.Common.{◌≡◌, ℕ, zero, suc, ◌+◌, ◌-◌, ◌*◌, ◌<◌, ◌≤◌, refl, ap, ◌∙◌, arith, min, zero-add, [], sum_by}
-use Rattle.std.specs.List.{range_with_len}
-use Rattle.std.proofs.Math.Nat.{le-mul_of_pos_right, suc-mul, zero-mul}
-use Rattle.std.proofs.lemmas.List.Sums.{sum_by-cons}
-use Rattle.sum_tree.specs.Tree.{children, sum_down, sum_of}
+use Rattle.sum_tree.proofs.Prelude.{◌≡◌, ℕ, zero, suc, ◌+◌, ◌-◌, ◌*◌, ◌<◌, ◌≤◌, refl, ap, ◌∙◌, arith, min, zero-add, [], sum_by, range_with_len}
+use Rattle.sum_tree.proofs.Prelude.{le-mul_of_pos_right, suc-mul, zero-mul, sum_by-cons, children, sum_down}
+use Rattle.sum_tree.specs.Tree.{sum_of}
 use Rattle.sum_tree.proofs.Ranges.{Within, same_sums, less_sums, joined_sums}
 
 -- a child is below n and has a greater number than its parent

@@ -1,31 +1,15 @@
 -- Each kind of step on a word of the sums keeps the rule.
-use Rattle.std.proofs.Common.{◌≡◌, ℕ, zero, suc, ◌+◌, ◌-◌, ◌*◌, ◌/◌, ◌%◌, ◌^◌, ◌<◌, ◌≤◌, refl, sym, subst, ap, ◌∙◌, arith, ◌==◌}
-use Rattle.std.proofs.Common.{Bool, true, false, min, List, ◌∷◌, map, length, get_or, set, get_or-set_same, get_or-set_other, length-set}
-use Rattle.std.proofs.Common.{eq-eqb, ne_eqb, sum_by}
-use Rattle.std.specs.List.{Contains, range_with_len, list_all}
-use Rattle.std.proofs.lemmas.List.{ext_get_or}
-use Rattle.std.proofs.lemmas.List.FromFn.{length-map-range_with_len, get_or-map-range_with_len}
-use mathlib.Core.Option.{none, some}
-use mathlib.Core.Logic.{dite}
-use native.Mathlib.Decide.{ℕ_discrete}
-use lib.ListN.{get_elem?}
-use lib.Seq.{set-get_or}
-use Rattle.atomic_table.specs.Table.{step, keeps, Allows}
-use Rattle.ring_core.specs.Picture.{put}
-use Rattle.ring_core.proofs.PictureLemmas.{put_here, put_elsewhere, put_all, put_same}
-use Rattle.ring_core.proofs.SeatLemmas.{Face, Seats, seat_knows}
-use Rattle.sum_tree.specs.Tree.{children, sum_of}
-use Rattle.sum_tree.specs.Told.{SumTold, uncounted, rank_of, count_of, word_of, is_final, words_below, are_final_below, put_rank, Sound}
+use Rattle.sum_tree.proofs.Prelude.{◌≡◌, ℕ, zero, suc, ◌+◌, ◌-◌, ◌*◌, ◌/◌, ◌%◌, ◌^◌, ◌<◌, ◌≤◌, refl, sym, subst, ap, ◌∙◌, arith, ◌==◌, Bool, true, false, min}
+use Rattle.sum_tree.proofs.Prelude.{List, ◌∷◌, map, length, get_or, set, get_or-set_same, get_or-set_other, length-set, eq-eqb, ne_eqb, sum_by, Contains}
+use Rattle.sum_tree.proofs.Prelude.{range_with_len, list_all, ext_get_or, length-map-range_with_len, get_or-map-range_with_len, none, some, dite, ℕ_discrete}
+use Rattle.sum_tree.proofs.Prelude.{get_elem?, set-get_or, step, keeps, Allows, put, put_here, put_elsewhere, put_all, put_same, Face, Seats, seat_knows}
+use Rattle.sum_tree.proofs.Prelude.{children, sum_of, SumTold, uncounted, rank_of, count_of, word_of, is_final, words_below, are_final_below, put_rank, Sound}
+use Rattle.sum_tree.proofs.Prelude.{coded, RankSum, TableState, seen_of, final_of, below, row_of, told_of, Moment, Rule, fresh, SeatState, knowing, noted}
+use Rattle.sum_tree.proofs.Prelude.{after_load, LoadTells, after_store, StoreTells, FinalTells, LastLookTells, Known, View}
 use Rattle.sum_tree.specs.Plain.{Rule as PlainRule}
-use Rattle.sum_tree.specs.Steps.{coded}
-use Rattle.sum_tree.specs.declared.ranks.RankSum.{RankSum}
 use Rattle.sum_tree.proofs.Ranges.{Within, same_sums, less_sums, tests_all}
 use Rattle.sum_tree.proofs.Rules.{Grows, rule_after, sound_after, fits}
 use Rattle.sum_tree.proofs.Trees.{child_after, sum_of_all}
-use Rattle.sum_tree.specs.TreeRule.{TableState, seen_of, final_of, below, row_of, told_of, Moment, Rule, fresh}
-use Rattle.sum_tree.specs.TreeSteps.{SeatState, knowing, noted, after_load, LoadTells, after_store, StoreTells, FinalTells, LastLookTells}
-use Rattle.sum_tree.specs.declared.tree_views.Known.{Known}
-use Rattle.sum_tree.specs.declared.tree_views.View.{View}
 
 abbrev rows : (ℕ → Known) → ℕ → RankSum
 rows known r = row_of (known r)

@@ -1,18 +1,8 @@
 -- Paths under others, below the tops of two sides.
-use Rattle.std.proofs.Common.{◌≡◌, ◌≢◌, ⊎_elim, ℕ, ◌<◌, List, [], ◌∷◌, ◌++◌, length, None, false, true, ◌||◌, refl, ap, ◌∙◌, sym, subst, arith}
-use Rattle.std.proofs.Common.{append_assoc, length-append}
-use Rattle.std.proofs.lemmas.Bool.{false≢true, or_parts}
-use Rattle.std.specs.Prelude.{IsTrue}
-use Rattle.std.specs.Cmp.Lexicographic.{bytes_decides}
-use Rattle.path_text.specs.Graft.{below_of, grafted}
-use Rattle.path_text.specs.Order.{front, is_under, is_within}
-use Rattle.path_text.specs.Path.{refusal}
-use Rattle.path_text.proofs.Parts.{begins, below_made, front_other, grafted_names}
-use Rattle.path_text.proofs.Preorder.{front-joined, some_front}
-use Rattle.path_text.proofs.Under.{IsUnder, is_under_by, names_under}
-use Rattle.path_text.proofs.Within.{same_or_under, under_within, within_root, within_up}
-use Rattle.outside.specs.Tree.{is_root}
-use Rattle.tree_copy.specs.Placing.{overlap}
+use Rattle.sync_report.proofs.Prelude.{◌≡◌, ◌≢◌, ⊎_elim, ℕ, ◌<◌, List, [], ◌∷◌, ◌++◌, length, None, false, true, ◌||◌, refl, ap, ◌∙◌, sym, subst, arith}
+use Rattle.sync_report.proofs.Prelude.{append_assoc, length-append, false≢true, or_parts, IsTrue, bytes_decides, below_of, grafted, front, is_under, is_within}
+use Rattle.sync_report.proofs.Prelude.{refusal, begins, below_made, front_other, grafted_names, front-joined, some_front, IsUnder, is_under_by, names_under}
+use Rattle.sync_report.proofs.Prelude.{same_or_under, under_within, within_root, within_up, is_root, overlap}
 use Rattle.path_text.proofs.Moved.{below_top}
 
 -- ---- two paths of which neither is within the other

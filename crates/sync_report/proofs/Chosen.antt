@@ -1,45 +1,17 @@
 -- What is chosen and copied where nothing stands against a sync: all under a chosen path is chosen, and then nothing is in the way of a copy.
-use Rattle.std.proofs.Common.{◌≡◌, ◌≢◌, ℕ, ◌<◌, Bool, true, false, not, List, [], ◌∷◌, ◌++◌, filter, length, nat_eq}
-use Rattle.std.proofs.Common.{Option, Some, None, refl, ap, ◌∙◌, sym, subst, arith}
-use Rattle.std.proofs.lemmas.Bool.{false≢true, and_parts, false_from_ne_true}
-use Rattle.std.proofs.lemmas.List.Elements.{recursion_from_All}
-use Rattle.std.specs.Prelude.{IsTrue, is_some}
-use Rattle.std.specs.FinMap.{get}
-use Rattle.std.specs.List.{AllByRecursion, list_any}
-use Rattle.std.specs.Option.{option_map}
-use Rattle.std.specs.Cmp.Lexicographic.{pointwise, bytes_decides}
-use Rattle.path_text.specs.Graft.{below_of, grafted}
-use Rattle.path_text.specs.Order.{is_under, is_within}
-use Rattle.path_text.specs.Path.{refusal}
-use Rattle.path_text.proofs.Moved.{below_undoes_graft}
-use Rattle.path_text.proofs.Parts.{before_made, below_made, front_other, graft_undoes_below}
-use Rattle.path_text.proofs.Under.{names_under}
-use Rattle.path_text.proofs.Within.{not_one, some_bytes, within_longer, within_up}
-use Rattle.std.proofs.Common.{append_assoc}
-use Rattle.outside.specs.Parts.{UnderDirectories}
-use Rattle.outside.specs.Tree.{Body, Files, Node, NodesHavePaths, dir, far_at, file, is_dir, is_dir_body, is_root, kind_of, link, other, stat_of}
+use Rattle.sync_report.proofs.Prelude.{◌≡◌, ◌≢◌, ℕ, ◌<◌, Bool, true, false, not, List, [], ◌∷◌, ◌++◌, filter, length, nat_eq, Option, Some, None, refl, ap, ◌∙◌}
+use Rattle.sync_report.proofs.Prelude.{sym, subst, arith, false≢true, and_parts, false_from_ne_true, recursion_from_All, IsTrue, is_some, get, AllByRecursion}
+use Rattle.sync_report.proofs.Prelude.{list_any, option_map, pointwise, bytes_decides, below_of, grafted, is_under, is_within, refusal, below_undoes_graft}
+use Rattle.sync_report.proofs.Prelude.{before_made, below_made, front_other, graft_undoes_below, names_under, not_one, some_bytes, within_longer, within_up}
+use Rattle.sync_report.proofs.Prelude.{append_assoc, UnderDirectories, Body, Files, Node, NodesHavePaths, dir, far_at, file, is_dir, is_dir_body, is_root}
+use Rattle.sync_report.proofs.Prelude.{kind_of, link, other, stat_of, Stat, all_weaker, Entry, is_kind, is_of, paths, Findings, side, clashes, Pair, AreWhole}
+use Rattle.sync_report.proofs.Prelude.{not_none, is_chosen, EntriesAreTold, IsTold, WalkListsAll, all_told, entry_of, told, both, kind_eq, kind_is}
+use Rattle.sync_report.proofs.Prelude.{list_any-map}
 use Rattle.outside.specs.declared.trees.Kind.TheVariants as kind
-use Rattle.outside.specs.declared.trees.Stat.{Stat}
-use Rattle.outside.proofs.Names.{all_weaker}
-use Rattle.entry_pages.specs.declared.entries.Entry.{Entry}
-use Rattle.entry_pages.specs.Entries.{is_kind, is_of}
-use Rattle.flat_list.specs.Spelling.{paths}
-use Rattle.tree_cmp.specs.Rows.{Findings}
-use Rattle.tree_cmp.specs.Sides.{side}
-use Rattle.tree_copy.specs.Copying.{clashes}
-use Rattle.tree_copy.specs.declared.pairs.Pair.{Pair}
-use Rattle.tree_remove.specs.Laws.{AreWhole}
-use Rattle.tree_remove.proofs.Removal.{not_none}
-use Rattle.tree_sync.specs.Syncing.{is_chosen}
-use Rattle.tree_walk.specs.Told.{EntriesAreTold, IsTold}
-use Rattle.tree_walk.specs.Walk.{WalkListsAll, all_told, entry_of, told}
-use Rattle.tree_walk.proofs.Lists.{both}
 use Rattle.sync_report.proofs.Below.{under_moved}
 use Rattle.sync_report.proofs.Lists.{kept, not_kept, passing}
 use Rattle.sync_report.proofs.Told.{AreCompared, chosen_is, is_odd}
 use Rattle.sync_report.proofs.Walked.{each}
-use Rattle.tree_sync.proofs.Both.{kind_eq, kind_is}
-use Rattle.tree_cmp.proofs.Lists.{list_any-map}
 
 dir_kind : (b : Body) → is_dir_body b ≡ true → kind_of b ≡ kind.Dir
 dir_kind (dir far) e = refl

@@ -1,43 +1,18 @@
 -- Where nothing stands against a sync, and no answer failed, each removal and each copy is done.
-use Rattle.std.proofs.Common.{◌≡◌, ℕ, Bool, true, false, cond, ◌&&◌, List, [], ◌∷◌, filter, map, length, nat_eq}
-use Rattle.std.proofs.Common.{Option, Some, None, IfSome, refl, ap, ◌∙◌, sym, subst, arith}
-use Rattle.std.proofs.lemmas.Bool.{false≢true, and_from, or_left}
-use Rattle.std.proofs.lemmas.List.Elements.{All-from_recursion, recursion_from_All}
-use Rattle.std.specs.Prelude.{IsTrue, is_none, is_some}
-use Rattle.std.specs.FinMap.{get}
-use Rattle.std.specs.List.{All, AllByRecursion, count_by, list_any}
-use Rattle.std.specs.Cmp.Lexicographic.{pointwise, bytes_decides}
-use Rattle.path_text.specs.Graft.{below_of, grafted}
-use Rattle.path_text.specs.Order.{is_within}
-use Rattle.outside.specs.Tree.{Body, Files, Node, dir, far_at, file, kind_of, link, other, text_of}
+use Rattle.sync_report.proofs.Prelude.{◌≡◌, ℕ, Bool, true, false, cond, ◌&&◌, List, [], ◌∷◌, filter, map, length, nat_eq, Option, Some, None, IfSome, refl, ap}
+use Rattle.sync_report.proofs.Prelude.{◌∙◌, sym, subst, arith, false≢true, and_from, or_left, All-from_recursion, recursion_from_All, IsTrue, is_none, is_some}
+use Rattle.sync_report.proofs.Prelude.{get, All, AllByRecursion, count_by, list_any, pointwise, bytes_decides, below_of, grafted, is_within, Body, Files, Node}
+use Rattle.sync_report.proofs.Prelude.{dir, far_at, file, kind_of, link, other, text_of, all_weaker, Entry, is_kind, paths, is_failed, Fate, Findings, side}
+use Rattle.sync_report.proofs.Prelude.{Copied, clashes, ends_of, is_untold, target_of, treated, FineEntriesAreCopied, TargetsAreLong, IsPair, overlap, Pair}
+use Rattle.sync_report.proofs.Prelude.{AreWhole, WholeChoicesGo, Removed, WasChosen, Results, Synced, chosen_of, copied_of, is_chosen, is_copied, is_there}
+use Rattle.sync_report.proofs.Prelude.{IsTold, WalkIsRecursive, all_told, entry_of, told, both, IsFineEntry, list_any-map}
 use Rattle.outside.specs.declared.trees.Kind.TheVariants as kind
-use Rattle.outside.proofs.Names.{all_weaker}
-use Rattle.entry_pages.specs.declared.entries.Entry.{Entry}
-use Rattle.entry_pages.specs.Entries.{is_kind}
-use Rattle.flat_list.specs.Spelling.{paths}
-use Rattle.level_work.specs.Counts.{is_failed}
-use Rattle.level_work.specs.declared.items.Fate.{Fate}
 use Rattle.level_work.specs.declared.items.Fate.TheVariants as fate
-use Rattle.tree_cmp.specs.Rows.{Findings}
-use Rattle.tree_cmp.specs.Sides.{side}
-use Rattle.tree_copy.specs.Copying.{Copied, clashes, ends_of, is_untold, target_of, treated}
-use Rattle.tree_copy.specs.Laws.{FineEntriesAreCopied, TargetsAreLong}
 use Rattle.tree_copy.specs.Laws as copy
-use Rattle.tree_copy.specs.Placing.{IsPair, overlap}
-use Rattle.tree_copy.specs.declared.pairs.Pair.{Pair}
-use Rattle.tree_remove.specs.Laws.{AreWhole, WholeChoicesGo}
-use Rattle.tree_remove.specs.Removing.{Removed, WasChosen}
-use Rattle.tree_sync.specs.Results.{Results}
-use Rattle.tree_sync.specs.Syncing.{Synced, chosen_of, copied_of, is_chosen, is_copied, is_there}
-use Rattle.tree_walk.specs.Told.{IsTold}
-use Rattle.tree_walk.specs.Walk.{WalkIsRecursive, all_told, entry_of, told}
-use Rattle.tree_walk.proofs.Lists.{both}
-use Rattle.sync_report.specs.Syncing.{IsFineEntry}
 use Rattle.sync_report.proofs.Chosen as chosen
 use Rattle.sync_report.proofs.Lists.{kept, passing}
 use Rattle.sync_report.proofs.Told.{AreCompared}
 use Rattle.sync_report.proofs.Walked.{each}
-use Rattle.tree_cmp.proofs.Lists.{list_any-map}
 
 abbrev Fated : Type 0
 Fated = List ℕ × Fate

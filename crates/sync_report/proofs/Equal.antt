@@ -1,27 +1,11 @@
 -- Once a sync is done both trees are equal but for what the lists and the results name, and so but for the paths of the notes.
-use Rattle.std.proofs.Common.{◌≡◌, ℕ, ◌-◌, Bool, true, false, cond, List, [], ◌∷◌, map, length}
-use Rattle.std.proofs.Common.{Option, Some, None, IfSome, refl, ◌∙◌, sym}
-use Rattle.std.proofs.lemmas.Bool.{false≢true}
-use Rattle.std.proofs.lemmas.List.Elements.{All-from_recursion, recursion_from_All}
-use Rattle.std.specs.Prelude.{IsTrue}
-use Rattle.std.specs.FinMap.{get}
-use Rattle.std.specs.List.{AllByRecursion}
-use Rattle.path_text.specs.Order.{is_within}
-use Rattle.path_text.specs.Path.{is_name, joined, refusal}
-use Rattle.path_text.proofs.Preorder.{front-joined, some_bytes}
-use Rattle.path_text.proofs.Under.{is_under_by}
-use Rattle.path_text.proofs.Within.{itself, within_up}
-use Rattle.outside.specs.Tree.{Files, IsTree, is_dir, is_root, names_in}
-use Rattle.outside.proofs.Names.{children_are_names}
-use Rattle.entry_pages.specs.declared.entries.Entry.{Entry}
-use Rattle.tree_copy.specs.declared.pairs.Pair.{Pair}
-use Rattle.tree_sync.specs.Laws.{IsFullList, SyncedRowsAgree}
-use Rattle.tree_sync.specs.Results.{Results}
-use Rattle.tree_sync.specs.Syncing.{Synced}
-use Rattle.tree_walk.proofs.Lawful.{walk_entries}
-use Rattle.tree_walk.specs.Told.{EntriesAreTold}
-use Rattle.tree_walk.specs.Walk.{Answer, WalkAscends, WalkListsAll, all_told, children_of, list_failed, stat_failed, told, walk}
-use Rattle.sync_report.specs.PrivateSteps.{IsReady, MakesEqual}
+use Rattle.sync_report.proofs.Prelude.{◌≡◌, ℕ, ◌-◌, Bool, true, false, cond, List, [], ◌∷◌, map, length, Option, Some, None, IfSome, refl, ◌∙◌, sym, false≢true}
+use Rattle.sync_report.proofs.Prelude.{All-from_recursion, recursion_from_All, IsTrue, get, AllByRecursion, is_within, is_name, joined, refusal, front-joined}
+use Rattle.sync_report.proofs.Prelude.{is_under_by, itself, within_up, Files, IsTree, is_dir, is_root, names_in, children_are_names, Entry, Pair, IsFullList}
+use Rattle.sync_report.proofs.Prelude.{SyncedRowsAgree, Results, Synced, walk_entries, EntriesAreTold, Answer, WalkAscends, WalkListsAll, all_told, children_of}
+use Rattle.sync_report.proofs.Prelude.{list_failed, stat_failed, told, IsReady, MakesEqual}
+use Rattle.path_text.proofs.Preorder.{some_bytes}
+use Rattle.tree_walk.specs.Walk.{walk}
 use Rattle.sync_report.proofs.Below.{apart, not_root}
 use Rattle.sync_report.proofs.Walked.{IsWalk, all_tell, are_told, clear, whole_by_all}
 

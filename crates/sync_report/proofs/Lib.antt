@@ -1,3 +1,4 @@
+mod Prelude
 pub mod Below
 pub mod Chosen
 pub mod Done

@@ -1,7 +1,6 @@
 -- Lists, element by element.
-use Rattle.std.proofs.Common.{◌≡◌, Bool, true, false, cond, ◌||◌, List, [], ◌∷◌, filter, Some, refl, ap, ◌∙◌, sym}
-use Rattle.std.proofs.lemmas.Bool.{false≢true, or_parts, or_left, or_right}
-use Rattle.std.specs.List.{AllByRecursion, find, list_any}
+use Rattle.sync_report.proofs.Prelude.{◌≡◌, Bool, true, false, cond, ◌||◌, List, [], ◌∷◌, filter, Some, refl, ap, ◌∙◌, sym, false≢true, or_parts, or_left}
+use Rattle.sync_report.proofs.Prelude.{or_right, AllByRecursion, find, list_any}
 
 -- an element that passes, with what is so of it
 pub record Passing {X : Type 0} (f : X → Bool) (P : X → Type 0) (xs : List X) : Type 0 where

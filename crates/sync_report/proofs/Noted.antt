@@ -1,41 +1,17 @@
 -- What the lists and the results of a sync name has a note.
-use Rattle.std.proofs.Common.{◌≡◌, ⊎_elim, ℕ, zero, suc, Bool, true, false, not, cond, ◌||◌, ◌&&◌, nat_eq, Option, ◌⊎◌, List, [], ◌∷◌, ◌++◌, map, filter}
-use Rattle.std.proofs.Common.{refl, ap, ◌∙◌, sym, subst, arith, get_or, Some, None, IfSome}
-use Rattle.std.proofs.lemmas.Bool.{false≢true, and_from, and_parts, or_cases, or_left, or_right, false_from_ne_true}
-use Rattle.std.proofs.lemmas.List.Elements.{recursion_from_All}
-use Rattle.std.proofs.lemmas.List.Folds.{list_any-append, list_any_at}
-use Rattle.std.specs.Prelude.{IsTrue, is_none, is_some, ◌==◌}
-use Rattle.std.specs.List.{All, AllByRecursion, Contains, flat_map, list_any}
-use Rattle.std.specs.Cmp.Lexicographic.{pointwise}
-use Rattle.path_text.specs.Graft.{below_of}
-use Rattle.path_text.specs.Order.{is_within}
-use Rattle.path_text.proofs.Within.{tops_are_nested}
-use Rattle.outside.specs.Tree.{Files}
+use Rattle.sync_report.proofs.Prelude.{◌≡◌, ⊎_elim, ℕ, zero, suc, Bool, true, false, not, cond, ◌||◌, ◌&&◌, nat_eq, Option, ◌⊎◌, List, [], ◌∷◌, ◌++◌, map}
+use Rattle.sync_report.proofs.Prelude.{filter, refl, ap, ◌∙◌, sym, subst, arith, get_or, Some, None, IfSome, false≢true, and_from, and_parts, or_cases, or_left}
+use Rattle.sync_report.proofs.Prelude.{or_right, false_from_ne_true, recursion_from_All, list_any-append, list_any_at, IsTrue, is_none, is_some, ◌==◌, All}
+use Rattle.sync_report.proofs.Prelude.{AllByRecursion, Contains, flat_map, list_any, pointwise, below_of, is_within, tops_are_nested, Files, all_weaker, Entry}
+use Rattle.sync_report.proofs.Prelude.{Mark, has_target, is_fine, is_of, is_shaped, is_sized, shape_by, Fate, is_gone, side, is_done, Pair, below_top, is_noted}
+use Rattle.sync_report.proofs.Prelude.{is_under_some, named, noted, undone, Results, is_there, Note, Why, mark_whys, notes_of, number_whys, whys_of, AreInOrder}
+use Rattle.sync_report.proofs.Prelude.{copy_notes, copy_whys, notes_by, on_side, removal_notes, removal_whys, IsReady, MakesEqual, AreEqualBut, dest_notes}
+use Rattle.sync_report.proofs.Prelude.{entry_notes, is_named, path_notes, says_absent, says_gone, sync_failures, both, list_any-map}
 use Rattle.outside.specs.declared.trees.Kind.TheVariants as kind
-use Rattle.outside.proofs.Names.{all_weaker}
-use Rattle.entry_pages.specs.declared.entries.Entry.{Entry}
-use Rattle.entry_pages.specs.declared.entries.Mark.{Mark}
 use Rattle.entry_pages.specs.declared.entries.Mark.TheVariants as mark
-use Rattle.entry_pages.specs.Entries.{has_target, is_fine, is_of, is_shaped, is_sized, shape_by}
-use Rattle.level_work.specs.declared.items.Fate.{Fate}
 use Rattle.level_work.specs.declared.items.Fate.TheVariants as fate
-use Rattle.tree_cmp.specs.Sides.{is_gone, side}
-use Rattle.level_work.specs.Counts.{is_done}
-use Rattle.tree_copy.specs.declared.pairs.Pair.{Pair}
-use Rattle.tree_sync.specs.Laws.{below_top, is_noted, is_under_some, named, noted, undone}
-use Rattle.tree_sync.specs.Results.{Results}
-use Rattle.tree_sync.specs.Syncing.{is_there}
-use Rattle.tool_text.specs.declared.noting.Note.{Note}
-use Rattle.tool_text.specs.declared.noting.Why.{Why}
 use Rattle.tool_text.specs.declared.noting.Why.TheVariants as why
-use Rattle.tool_text.specs.Notes.{mark_whys, notes_of, number_whys, whys_of}
-use Rattle.tool_text.specs.NoteOrder.{AreInOrder}
-use Rattle.run_entries.specs.Naming.{copy_notes, copy_whys, notes_by, on_side, removal_notes, removal_whys}
-use Rattle.sync_report.specs.PrivateSteps.{IsReady, MakesEqual}
-use Rattle.sync_report.specs.Syncing.{AreEqualBut, dest_notes, entry_notes, is_named, path_notes, says_absent, says_gone, sync_failures}
 use Rattle.sync_report.proofs.Below.{apart}
-use Rattle.tree_walk.proofs.Lists.{both}
-use Rattle.tree_cmp.proofs.Lists.{list_any-map}
 
 -- ---- members
 
@@ -238,7 +214,7 @@ module _ (pair : Pair) (source dest : List Entry) (tree : Option Files) (r : IsR
       (either over_path (done.failed ++ done.changed) (undone done.copies) h))
       (λ c. in_right is_over (before ++ copied) (removal_notes done.removals) (of_rows removal_whys removal_reason done.removals c))
       (either over_path (done.failed ++ done.changed ++ undone done.copies) (undone done.removals)
-          (sym (list_any-map (is_within p) (below_top pair) results) ∙ h)))
+      (sym (list_any-map (is_within p) (below_top pair) results) ∙ h)))
       (either (is_within p) (noted (side pair.source source) ++ noted (side pair.target dest)) (map (below_top pair) results) h)
     where
       lists : List Note

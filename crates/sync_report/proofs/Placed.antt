@@ -1,18 +1,8 @@
 -- What the look at what is over the destination told.
-use Rattle.std.proofs.Common.{◌≡◌, ℕ, ◌+◌, ◌-◌, ◌^◌, ◌<◌, Bool, true, false, cond, min, Option, Some, None, IfSome, Result, Ok, Err, IfErr}
-use Rattle.std.proofs.Common.{refl, ap, arith}
-use Rattle.std.specs.FinMap.{get}
-use Rattle.path_text.specs.Path.{parent_of}
-use Rattle.outside.specs.Asked.{Asks}
-use Rattle.outside.specs.Count.{RoseBy}
-use Rattle.outside.specs.Tree.{Files, is_dir}
-use Rattle.tree_copy.specs.declared.pairs.Pair.{Pair}
-use Rattle.tree_copy.specs.declared.pairs.PlaceError.{PlaceError}
+use Rattle.sync_report.proofs.Prelude.{◌≡◌, ℕ, ◌+◌, ◌-◌, ◌^◌, ◌<◌, Bool, true, false, cond, min, Option, Some, None, IfSome, Result, Ok, Err, IfErr, refl, ap}
+use Rattle.sync_report.proofs.Prelude.{arith, get, parent_of, Asks, RoseBy, Files, is_dir, Pair, PlaceError, IsLookCounted, IsSyncWhy, SyncPlaceStopped}
+use Rattle.sync_report.proofs.Prelude.{sync_placed, sync_placed_over, Side, Places, StopsPlacing}
 use Rattle.tree_copy.specs.declared.pairs.PlaceError.TheVariants as place
-use Rattle.tree_sync.specs.Placing.{IsLookCounted, IsSyncWhy, SyncPlaceStopped, sync_placed, sync_placed_over}
-use Rattle.run_report.specs.Sides.{Side}
-use Rattle.sync_report.specs.Placing.{Places}
-use Rattle.sync_report.specs.PrivateSteps.{StopsPlacing}
 
 abbrev pub Placed : Type 0
 Placed = Result (Unit {0}) PlaceError

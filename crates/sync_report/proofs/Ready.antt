@@ -1,32 +1,13 @@
 -- What the walks of a pair that was placed give: lists that can be synced.
-use Rattle.std.proofs.Common.{◌≡◌, ℕ, true, false, cond, List, [], ◌∷◌, length, Option, Some, None, IfSome, refl, ap, ◌∙◌, subst, arith}
-use Rattle.std.proofs.Common.{append-nil}
-use Rattle.std.proofs.lemmas.List.Elements.{All-from_recursion}
-use Rattle.std.proofs.lemmas.List.Sums.{sum_by-cons}
-use Rattle.std.specs.Prelude.{is_some}
-use Rattle.std.proofs.lemmas.Bool.{or_left}
-use Rattle.std.specs.FinMap.{get}
-use Rattle.std.specs.List.{Contains, flat_map}
+use Rattle.sync_report.proofs.Prelude.{◌≡◌, ℕ, true, false, cond, List, [], ◌∷◌, length, Option, Some, None, IfSome, refl, ap, ◌∙◌, subst, arith, append-nil}
+use Rattle.sync_report.proofs.Prelude.{All-from_recursion, sum_by-cons, is_some, or_left, get, Contains, flat_map, refusal, Files, IsTree, NodesHavePaths}
+use Rattle.sync_report.proofs.Prelude.{Entry, bit, IsSide, side, Pair, in_itself, IsRoots, RootsAreUnique, is_in, is_in_some, EntriesAreTold}
+use Rattle.sync_report.proofs.Prelude.{EntriesHaveParents, WalkListsAll, answers_in, walk, Side, side_with, AreSides, WalksBoth, Walked, Sides, CanSync}
+use Rattle.sync_report.proofs.Prelude.{FitsSync, IsPlaced, IsReady, not_none}
+use Rattle.sync_report.specs.PrivateSteps.{AreWhole}
 use Rattle.std.specs.List.Sorted.{IsStrictlySortedBy}
-use Rattle.path_text.specs.Path.{refusal}
-use Rattle.outside.specs.Tree.{Files, IsTree, NodesHavePaths}
-use Rattle.entry_pages.specs.declared.entries.Entry.{Entry}
-use Rattle.entry_pages.proofs.Counted.{bit}
-use Rattle.tree_cmp.specs.Sides.{IsSide, side}
-use Rattle.tree_copy.specs.declared.pairs.Pair.{Pair}
-use Rattle.tree_walk.proofs.Inside.{in_itself}
-use Rattle.tree_walk.specs.Roots.{IsRoots, RootsAreUnique, is_in, is_in_some}
-use Rattle.tree_walk.specs.Told.{EntriesAreTold, EntriesHaveParents}
-use Rattle.tree_walk.specs.Walk.{WalkListsAll, answers_in, walk}
-use Rattle.run_report.specs.Sides.{Side, side_with}
-use Rattle.run_entries.specs.Both.{AreSides, WalksBoth}
-use Rattle.run_entries.specs.Entries.{Walked}
-use Rattle.run_entries.specs.declared.both.Sides.{Sides}
-use Rattle.tree_sync.specs.Syncing.{CanSync, FitsSync}
-use Rattle.sync_report.specs.PrivateSteps.{AreWhole, IsPlaced, IsReady}
 use Rattle.sync_report.proofs.Below.{apart, not_root}
 use Rattle.sync_report.proofs.Walked.{IsWalk, all_tell, are_told, have_parents, whole}
-use Rattle.tree_remove.proofs.Removal.{not_none}
 
 -- ---- a path is the root of itself
 

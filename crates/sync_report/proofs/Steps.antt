@@ -1,17 +1,8 @@
 -- What the steps of dsync told, as its own words say it.
-use Rattle.std.proofs.Common.{◌≡◌, inr, ◌≤◌, Bool, List, Option, Some, None, IfSome, Ok, refl, ap, sym, subst, ◌∙◌}
+use Rattle.sync_report.proofs.Prelude.{◌≡◌, inr, ◌≤◌, Bool, List, Option, Some, None, IfSome, Ok, refl, ap, sym, subst, ◌∙◌, Files, Entry, Pair, Results}
+use Rattle.sync_report.proofs.Prelude.{SameOutside, SyncAsked, Stop, Side, side_with, StopsEitherWalk, WalksBoth, Places, Surveys, LeavesSync, StopsSync, Syncs}
+use Rattle.sync_report.proofs.Prelude.{pair_of}
 use Rattle.std.specs.Option.{is_some}
-use Rattle.outside.specs.Tree.{Files}
-use Rattle.entry_pages.specs.declared.entries.Entry.{Entry}
-use Rattle.tree_copy.specs.declared.pairs.Pair.{Pair}
-use Rattle.tree_sync.specs.Results.{Results}
-use Rattle.tree_sync.specs.Syncing.{SameOutside}
-use Rattle.tool_words.specs.Asked.{SyncAsked}
-use Rattle.run_report.specs.declared.stops.Stop.{Stop}
-use Rattle.run_report.specs.Sides.{Side, side_with}
-use Rattle.run_entries.specs.Both.{StopsEitherWalk, WalksBoth}
-use Rattle.sync_report.specs.Placing.{Places, Surveys}
-use Rattle.sync_report.specs.Syncing.{LeavesSync, StopsSync, Syncs, pair_of}
 
 -- the look, after which the pair was placed: it leaves the tree as it was
 pub record Looked (pair : Pair) (before looked : Side) : Type 0 where

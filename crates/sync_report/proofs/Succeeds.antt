@@ -1,42 +1,18 @@
 -- When dsync succeeds.
-use Rattle.std.proofs.Common.{◌≡◌, ⊎_elim, ℕ, ◌≤◌, true, false, not, cond, List, [], ◌∷◌, ◌++◌, filter, map, length, nat_eq}
-use Rattle.std.proofs.Common.{Option, Some, None, IfSome, Result, Err, refl, ap, ◌∙◌, sym, subst, arith, append-nil}
-use Rattle.std.proofs.lemmas.List.Elements.{All-from_recursion, recursion_from_All}
-use Rattle.std.proofs.lemmas.List.Sums.{sum_by-cons}
-use Rattle.std.specs.Prelude.{is_some}
-use Rattle.std.specs.FinMap.{get}
-use Rattle.std.specs.List.{All, flat_map, sum_by}
-use Rattle.std.specs.Cmp.Lexicographic.{pointwise, bytes_decides}
-use Rattle.path_text.specs.Path.{joined, parent_of, refusal}
-use Rattle.outside.specs.Count.{StoodStill}
-use Rattle.outside.specs.Tree.{Files, IsTree, Node, is_dir, names_in}
-use Rattle.entry_pages.specs.declared.entries.Entry.{Entry}
+use Rattle.sync_report.proofs.Prelude.{◌≡◌, ⊎_elim, ℕ, ◌≤◌, true, false, not, cond, List, [], ◌∷◌, ◌++◌, filter, map, length, nat_eq, Option, Some, None}
+use Rattle.sync_report.proofs.Prelude.{IfSome, Result, Err, refl, ap, ◌∙◌, sym, subst, arith, append-nil, All-from_recursion, recursion_from_All, sum_by-cons}
+use Rattle.sync_report.proofs.Prelude.{is_some, get, All, flat_map, sum_by, pointwise, bytes_decides, joined, parent_of, refusal, StoodStill, Files, IsTree}
+use Rattle.sync_report.proofs.Prelude.{Node, is_dir, names_in, Entry, max_entries, overlap, Pair, PlaceError, sync_placed, sync_placed_over, Synced}
+use Rattle.sync_report.proofs.Prelude.{RootsAreUnique, Answer, WalkAscends, WalkIsRecursive, all_told, answer_in, answers_in, bare, entry_of, list_failed}
+use Rattle.sync_report.proofs.Prelude.{stat_failed, told, walk, weight, weight_of, AreInOrder, NothingToOrder, SyncAsked, input, roots, Valid, WithinSync}
+use Rattle.sync_report.proofs.Prelude.{Report, Stop, Side, side_with, Walked, DoneNamesNothing, FineWalksNameNothing, FineWalksStopForMemory, StillCounts}
+use Rattle.sync_report.proofs.Prelude.{IsTooLongWalk, StopsListing, FineSyncSucceeds, IsNowhere, Places, FineSync, IsFineDest, IsFineEntry, ReportsSync}
+use Rattle.sync_report.proofs.Prelude.{ReportsSynced, StopsSync, dest_notes, pair_of, path_notes, says_absent}
 use Rattle.entry_pages.specs.declared.entries.Mark.TheVariants as mark
-use Rattle.flat_list.specs.Spelling.{max_entries}
-use Rattle.tree_copy.specs.Placing.{overlap}
-use Rattle.tree_copy.specs.declared.pairs.Pair.{Pair}
-use Rattle.tree_copy.specs.declared.pairs.PlaceError.{PlaceError}
 use Rattle.tree_copy.specs.declared.pairs.PlaceError.TheVariants as place
-use Rattle.tree_sync.specs.Placing.{sync_placed, sync_placed_over}
-use Rattle.tree_sync.specs.Syncing.{Synced}
-use Rattle.tree_walk.specs.Roots.{RootsAreUnique}
-use Rattle.tree_walk.specs.Walk.{Answer, WalkAscends, WalkIsRecursive, all_told, answer_in, answers_in, bare, entry_of, list_failed, stat_failed}
-use Rattle.tree_walk.specs.Walk.{told, walk, weight, weight_of}
 use Rattle.tool_text.specs.declared.noting.Why.TheVariants as why
-use Rattle.tool_text.specs.NoteOrder.{AreInOrder, NothingToOrder}
-use Rattle.tool_words.specs.Asked.{SyncAsked, input, roots}
-use Rattle.tool_words.specs.Limits.{Valid, WithinSync}
-use Rattle.run_report.specs.declared.reports.Report.{Report}
-use Rattle.run_report.specs.declared.stops.Stop.{Stop}
 use Rattle.run_report.specs.declared.stops.Stop.TheVariants as stop
 use Rattle.run_report.specs.declared.stops.Trouble.TheVariants as trouble
-use Rattle.run_report.specs.Sides.{Side, side_with}
-use Rattle.run_entries.specs.Entries.{Walked}
-use Rattle.run_entries.specs.Fine.{DoneNamesNothing, FineWalksNameNothing, FineWalksStopForMemory, StillCounts}
-use Rattle.run_entries.specs.Stopping.{IsTooLongWalk, StopsListing}
-use Rattle.sync_report.specs.Laws.{FineSyncSucceeds}
-use Rattle.sync_report.specs.Placing.{IsNowhere, Places}
-use Rattle.sync_report.specs.Syncing.{FineSync, IsFineDest, IsFineEntry, ReportsSync, ReportsSynced, StopsSync, dest_notes, pair_of, path_notes, says_absent}
 use Rattle.sync_report.proofs.Below.{apart, not_root}
 use Rattle.sync_report.proofs.Done as works
 use Rattle.sync_report.proofs.Equal.{own_walk}

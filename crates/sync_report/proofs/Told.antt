@@ -1,30 +1,12 @@
 -- What two walks say, and a comparison of them, where no answer fails and no directory has a child whose path is too long.
-use Rattle.std.proofs.Common.{◌≡◌, ℕ, Bool, true, false, not, cond, ◌||◌, ◌&&◌, List, [], ◌∷◌, ◌++◌, nat_eq, Option, Some, None, IfSome}
-use Rattle.std.proofs.Common.{refl, ap, ◌∙◌, sym, subst}
-use Rattle.std.proofs.lemmas.Bool.{false≢true, and_from, and_parts, not-true, or_right}
-use Rattle.std.proofs.lemmas.List.Elements.{recursion_from_All}
-use Rattle.std.specs.Prelude.{IsTrue, is_some, ◌==◌}
-use Rattle.std.specs.FinMap.{get}
-use Rattle.std.specs.List.{All, AllByRecursion, find}
-use Rattle.std.specs.Option.{option_map}
-use Rattle.std.specs.Cmp.Lexicographic.{pointwise, bytes_decides}
-use Rattle.path_text.specs.Graft.{below_of, grafted}
-use Rattle.path_text.specs.Order.{is_under, is_within}
-use Rattle.path_text.specs.Path.{refusal}
-use Rattle.path_text.proofs.Parts.{graft_undoes_below}
-use Rattle.outside.specs.Tree.{Files, Node, kind_of, stat_of}
+use Rattle.sync_report.proofs.Prelude.{◌≡◌, ℕ, Bool, true, false, not, cond, ◌||◌, ◌&&◌, List, [], ◌∷◌, ◌++◌, nat_eq, Option, Some, None, IfSome, refl, ap, ◌∙◌}
+use Rattle.sync_report.proofs.Prelude.{sym, subst, false≢true, and_from, and_parts, not-true, or_right, recursion_from_All, IsTrue, is_some, ◌==◌, get, All}
+use Rattle.sync_report.proofs.Prelude.{AllByRecursion, find, option_map, pointwise, bytes_decides, below_of, grafted, is_under, is_within, refusal}
+use Rattle.sync_report.proofs.Prelude.{graft_undoes_below, Files, Node, kind_of, stat_of, all_weaker, Entry, is_kind, is_of, Row, Findings, IsComparison, IsRow}
+use Rattle.sync_report.proofs.Prelude.{exist_of, is_missed, kinds, stat_at, two_of, entry_at, is_closed, is_gone, is_hidden, is_partial, side, Pair, has_other}
+use Rattle.sync_report.proofs.Prelude.{is_chosen, is_differ, is_foreign, is_masked, is_only_dest, row_at, EntriesAreTold, IsTold, WalkListsAll, all_told}
+use Rattle.sync_report.proofs.Prelude.{entry_of, told, both}
 use Rattle.outside.specs.declared.trees.Kind.TheVariants as kind
-use Rattle.outside.proofs.Names.{all_weaker}
-use Rattle.entry_pages.specs.declared.entries.Entry.{Entry}
-use Rattle.entry_pages.specs.Entries.{is_kind, is_of}
-use Rattle.tree_cmp.specs.declared.rows.Row.{Row}
-use Rattle.tree_cmp.specs.Rows.{Findings, IsComparison, IsRow, exist_of, is_missed, kinds, stat_at, two_of}
-use Rattle.tree_cmp.specs.Sides.{entry_at, is_closed, is_gone, is_hidden, is_partial, side}
-use Rattle.tree_copy.specs.declared.pairs.Pair.{Pair}
-use Rattle.tree_sync.specs.Syncing.{has_other, is_chosen, is_differ, is_foreign, is_masked, is_only_dest, row_at}
-use Rattle.tree_walk.specs.Told.{EntriesAreTold, IsTold}
-use Rattle.tree_walk.specs.Walk.{WalkListsAll, all_told, entry_of, told}
-use Rattle.tree_walk.proofs.Lists.{both}
 use Rattle.sync_report.proofs.Lists.{none_any, passing}
 use Rattle.sync_report.proofs.Walked.{IsWalk, at_path, each, whole_by_all}
 

@@ -1,38 +1,16 @@
 -- What the list of a walk says of the tree that was walked: each node has an entry there, off what failed.
-use Rattle.std.proofs.Common.{◌≡◌, ◌≢◌, ℕ, true, false, not, cond, ◌||◌, ◌&&◌, List, [], ◌∷◌, ◌++◌, filter, get_or, Option, Some, None, IfSome, nat_eq}
-use Rattle.std.proofs.Common.{refl, ap, ◌∙◌, sym, subst, append-nil}
-use Rattle.std.proofs.lemmas.Bool.{false≢true, and_parts, and_from}
-use Rattle.std.proofs.lemmas.List.Elements.{recursion_from_All}
-use Rattle.std.specs.Prelude.{Bool, IsTrue, is_some, ◌==◌}
-use Rattle.std.specs.FinMap.{get}
-use Rattle.std.specs.List.{All, AllByRecursion, list_any}
-use Rattle.std.specs.Cmp.Lexicographic.{pointwise, bytes_decides}
-use Rattle.path_text.specs.Graft.{below_of, grafted}
-use Rattle.path_text.specs.Order.{is_under, is_within}
-use Rattle.path_text.specs.Path.{parent_of, refusal}
-use Rattle.path_text.proofs.Moved.{below_undoes_graft}
-use Rattle.path_text.proofs.Parts.{graft_undoes_below}
-use Rattle.path_text.proofs.Within.{itself}
-use Rattle.outside.specs.Tree.{Files, IsTree, Node, is_root, link_at}
+use Rattle.sync_report.proofs.Prelude.{◌≡◌, ◌≢◌, ℕ, true, false, not, cond, ◌||◌, ◌&&◌, List, [], ◌∷◌, ◌++◌, filter, get_or, Option, Some, None, IfSome, nat_eq}
+use Rattle.sync_report.proofs.Prelude.{refl, ap, ◌∙◌, sym, subst, append-nil, false≢true, and_parts, and_from, recursion_from_All, IsTrue, is_some, ◌==◌, get}
+use Rattle.sync_report.proofs.Prelude.{All, AllByRecursion, list_any, pointwise, bytes_decides, below_of, grafted, is_under, is_within, parent_of, refusal}
+use Rattle.sync_report.proofs.Prelude.{below_undoes_graft, graft_undoes_below, itself, Files, IsTree, Node, is_root, link_at, Stat, all_weaker, Entry, Mark}
+use Rattle.sync_report.proofs.Prelude.{is_fine, is_of, paths, stat_at, IsSide, entry_at, is_gone, side, IsWhole, is_noted, is_under_some, noted, AreTold}
+use Rattle.sync_report.proofs.Prelude.{has_parent, EntriesAreTold, EntriesHaveParents, IsTold, StandsBy, has_dir, stat_by, target_by, Answers, WalkListsAll}
+use Rattle.sync_report.proofs.Prelude.{all_told, answer_by, answer_in, answers_in, entry_of, is_told, told, walk, both, stat_told, list_any-map}
+use Rattle.std.specs.Prelude.{Bool}
 use Rattle.outside.specs.declared.trees.Kind.TheVariants as kind
-use Rattle.outside.specs.declared.trees.Stat.{Stat}
-use Rattle.outside.proofs.Names.{all_weaker}
-use Rattle.entry_pages.specs.declared.entries.Entry.{Entry}
-use Rattle.entry_pages.specs.declared.entries.Mark.{Mark}
 use Rattle.entry_pages.specs.declared.entries.Mark.TheVariants as mark
-use Rattle.entry_pages.specs.Entries.{is_fine, is_of}
-use Rattle.flat_list.specs.Spelling.{paths}
-use Rattle.tree_cmp.specs.Rows.{stat_at}
-use Rattle.tree_cmp.specs.Sides.{IsSide, entry_at, is_gone, side}
-use Rattle.tree_sync.specs.Laws.{IsWhole, is_noted, is_under_some, noted}
-use Rattle.tree_sync.specs.Syncing.{AreTold, has_parent}
-use Rattle.tree_walk.specs.Told.{EntriesAreTold, EntriesHaveParents, IsTold, StandsBy, has_dir, stat_by, target_by}
-use Rattle.tree_walk.specs.Walk.{Answers, WalkListsAll, all_told, answer_by, answer_in, answers_in, entry_of, is_told, told, walk}
-use Rattle.tree_walk.proofs.Lists.{both}
 use Rattle.sync_report.proofs.Below.{within_below}
 use Rattle.sync_report.proofs.Lists.{any_other, not_kept, passing}
-use Rattle.run_entries.proofs.Sided.{stat_told}
-use Rattle.tree_cmp.proofs.Lists.{list_any-map}
 
 -- the list is the walk of a tree from a top that is not `/`
 pub record IsWalk (files : Files) (a : Answers) (top : List ℕ) (list : List Entry) : Type 0 where

@@ -1,23 +1,11 @@
 -- What stands in the tree while it is made.
-use Rattle.std.proofs.Common.{◌≡◌, ◌≢◌, ℕ, ◌+◌, ◌*◌, ◌/◌, ◌%◌, ◌<◌, ◌≤◌, ◌^◌, zero, suc, true, false, cond, List, [], ◌∷◌, map, Some, None, refl, ap, ◌∙◌}
-use Rattle.std.proofs.Common.{sym, arith}
-use Rattle.std.specs.Prelude.{nat_lt, replicate}
-use Rattle.std.specs.List.{range_with_len}
-use Rattle.std.specs.Ordering.{eq_by_cmp}
-use Rattle.std.specs.Cmp.Lexicographic.{bytes_decides}
-use Rattle.std.specs.FinMap.{get, insert, from_entries, from_entries_push, get-from_entries}
-use Rattle.std.specs.FinMap.Entries.{find}
-use Rattle.std.proofs.lemmas.Bool.{false≢true}
-use Rattle.std.proofs.lemmas.Bool.Decides.{nat_tests}
-use Rattle.std.proofs.lemmas.List.FromFn.{map-range_with_len_more}
-use Rattle.path_text.specs.Order.{path_cmp}
-use Rattle.path_text.specs.Path.{parent_of}
-use Rattle.path_text.specs.Total.{path_cmp_total, path_cmp_ties, path_cmp_same}
-use Rattle.outside.specs.Tree.{Files, Node, dir, file, is_dir, is_dir_body}
-use Rattle.outside.specs.Writes.{empty_dir}
-use Rattle.files_mem.specs.Memory.{put_refusal, empty_files}
-use Rattle.test_tree.specs.Nodes.{path_of, node_of, test_files}
-use Rattle.test_tree.specs.Made.{first_files, place_over}
+use Rattle.test_tree.proofs.Prelude.{◌≡◌, ◌≢◌, ℕ, ◌+◌, ◌*◌, ◌/◌, ◌%◌, ◌<◌, ◌≤◌, ◌^◌, zero, suc, true, false, cond, List, [], ◌∷◌, map, Some, None, refl, ap}
+use Rattle.test_tree.proofs.Prelude.{◌∙◌, sym, arith, nat_lt, replicate, range_with_len, eq_by_cmp, bytes_decides, get, insert, from_entries, from_entries_push}
+use Rattle.test_tree.proofs.Prelude.{get-from_entries, find, false≢true, nat_tests, map-range_with_len_more, path_cmp, parent_of, path_cmp_total, path_cmp_ties}
+use Rattle.test_tree.proofs.Prelude.{path_cmp_same, Files, Node, dir, file, is_dir, is_dir_body, empty_dir, put_refusal, empty_files, path_of, node_of}
+use Rattle.test_tree.proofs.Prelude.{place_over}
+use Rattle.test_tree.specs.Nodes.{test_files}
+use Rattle.test_tree.specs.Made.{first_files}
 use Rattle.test_tree.proofs.Placed.{parent_of-path, path_tells, never_root, place_over-suc}
 
 abbrev pub entry : ℕ → ℕ → List ℕ × Node

@@ -1,27 +1,14 @@
 -- The laws of the made-up tree.
-use Rattle.std.proofs.Common.{◌≡◌, ◌≢◌, ◌⊎◌, inl, inr, ⊎_elim, ℕ, ◌+◌, ◌*◌, ◌%◌, ◌<◌, ◌≤◌, ◌^◌, zero, suc, Bool, true, false, cond, ◌&&◌, ◌||◌, List, [], ◌∷◌}
-use Rattle.std.proofs.Common.{map, Some, None, refl, ap, ◌∙◌, sym, subst, arith, zero-add, add-one}
-use Rattle.std.specs.Prelude.{nat_lt, replicate}
-use Rattle.std.specs.Option.{is_some, is_none}
-use Rattle.std.specs.List.{range_with_len}
-use Rattle.std.specs.Ordering.{eq_by_cmp}
-use Rattle.std.specs.Cmp.Lexicographic.{bytes_decides}
-use Rattle.std.specs.FinMap.{get, len, insert, empty, get-empty, len-empty, len-insert}
-use Rattle.std.specs.FinMap.Entries.{find}
-use Rattle.std.proofs.lemmas.Bool.{false≢true, and_from, or_right}
-use Rattle.std.proofs.lemmas.Fmt.{decimal_digit}
-use Rattle.path_text.specs.Order.{path_cmp}
-use Rattle.path_text.specs.Path.{joined, refusal, parent_of}
-use Rattle.path_text.specs.Total.{path_cmp_total}
-use Rattle.outside.specs.Tree.{Files, Node, dir, file, is_dir, is_root, far_of, far_at, IsTree}
-use Rattle.outside.specs.Writes.{empty_dir}
-use Rattle.test_tree.specs.Nodes.{path_of, node_of, test_files}
-use Rattle.test_tree.specs.Made.{first_files}
-use Rattle.test_tree.specs.Laws.{FirstNodeIsThere, TestFilesAreTree, NoChildIsFar, NodesAreCounted}
+use Rattle.test_tree.proofs.Prelude.{◌≡◌, ◌≢◌, ◌⊎◌, inl, inr, ⊎_elim, ℕ, ◌+◌, ◌*◌, ◌%◌, ◌<◌, ◌≤◌, ◌^◌, zero, suc, Bool, true, false, cond, ◌&&◌, ◌||◌, List, []}
+use Rattle.test_tree.proofs.Prelude.{◌∷◌, map, Some, None, refl, ap, ◌∙◌, sym, subst, arith, zero-add, add-one, nat_lt, replicate, is_some, is_none}
+use Rattle.test_tree.proofs.Prelude.{range_with_len, eq_by_cmp, bytes_decides, get, len, insert, empty, get-empty, len-empty, len-insert, find, false≢true}
+use Rattle.test_tree.proofs.Prelude.{and_from, or_right, decimal_digit, path_cmp, joined, refusal, parent_of, path_cmp_total, Files, Node, dir, file, is_dir}
+use Rattle.test_tree.proofs.Prelude.{is_root, far_of, far_at, empty_dir, path_of, node_of, test_files, first_files, FirstNodeIsThere, TestFilesAreTree}
+use Rattle.test_tree.proofs.Prelude.{NoChildIsFar, NodesAreCounted, same_path}
+use Rattle.outside.specs.Tree.{IsTree}
 use Rattle.test_tree.proofs.Placed.{path_of-zero, parent_of-path}
 use Rattle.test_tree.proofs.Valid.{path_valid}
 use Rattle.test_tree.proofs.Filled.{entry, get_first, behind_root, first_at, first_all, first_none, next_none, over_dir, root_dir, grown}
-use Rattle.files_mem.proofs.Treed.{same_path}
 
 -- what is at a path
 

@@ -1,3 +1,4 @@
+mod Prelude
 pub mod Numbered
 pub mod Placed
 pub mod Filled

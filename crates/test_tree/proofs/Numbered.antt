@@ -1,14 +1,6 @@
 -- The name of a node: it may stand after a `/`, is short, and tells the number.
-use Rattle.std.proofs.Common.{◌≡◌, ℕ, ◌+◌, ◌<◌, ◌≤◌, ◌^◌, ◌%◌, Bool, false, ◌||◌, List, [], ◌∷◌, length, drop, ap, ◌∙◌, arith}
-use Rattle.std.specs.Prelude.{◌==◌}
-use Rattle.std.specs.Bool.{IsTrue}
-use Rattle.std.specs.Fmt.{decimal}
-use Rattle.std.specs.List.{list_any}
-use Rattle.std.proofs.lemmas.Fmt.{decimal_by_steps, decimal_injective, length-decimal-le}
-use Rattle.std.proofs.lemmas.List.Folds.{list_any-append}
-use Rattle.std.proofs.lemmas.Bool.Decides.{nat_tests}
-use Rattle.path_text.specs.Path.{is_slash, is_name}
-use Rattle.test_tree.specs.Nodes.{name_of}
+use Rattle.test_tree.proofs.Prelude.{◌≡◌, ℕ, ◌+◌, ◌<◌, ◌≤◌, ◌^◌, ◌%◌, Bool, false, ◌||◌, List, [], ◌∷◌, length, drop, ap, ◌∙◌, arith, ◌==◌, IsTrue, decimal}
+use Rattle.test_tree.proofs.Prelude.{list_any, decimal_by_steps, decimal_injective, length-decimal-le, list_any-append, nat_tests, is_slash, is_name, name_of}
 
 -- a test that no byte from 48 on passes is passed by no digit
 no_digit : (p : ℕ → Bool) → ((d : ℕ) → 48 ≤ d → p d ≡ false) → (k : ℕ) → k < 2 ^ 64 → list_any p (decimal k) ≡ false

@@ -1,14 +1,8 @@
 -- The path of a node: its parent, its base and its length.
-use Rattle.std.proofs.Common.{◌≡◌, ◌≢◌, ℕ, ◌+◌, ◌-◌, ◌*◌, ◌/◌, ◌<◌, ◌≤◌, ◌^◌, ◌⊎◌, inl, inr, zero, suc, true, false, cond, List, [], ◌∷◌}
-use Rattle.std.proofs.Common.{◌++◌, length, drop, refl, ap, ◌∙◌, sym, subst, arith, length-append}
-use Rattle.std.specs.Prelude.{◌==◌}
-use Rattle.std.specs.List.{before_last, after_last}
-use Rattle.std.proofs.lemmas.Bool.Decides.{nat_tests}
-use Rattle.std.proofs.lemmas.Fmt.{decimal_digit}
-use Rattle.path_text.specs.Path.{is_slash, joined, parent_of, base_of}
-use Rattle.path_text.proofs.Parents.{around_slash}
-use Rattle.test_tree.specs.Nodes.{name_of, path_down, path_of}
-use Rattle.test_tree.specs.Made.{place, place_over}
+use Rattle.test_tree.proofs.Prelude.{◌≡◌, ◌≢◌, ℕ, ◌+◌, ◌-◌, ◌*◌, ◌/◌, ◌<◌, ◌≤◌, ◌^◌, ◌⊎◌, inl, inr, zero, suc, true, false, cond, List, [], ◌∷◌, ◌++◌, length}
+use Rattle.test_tree.proofs.Prelude.{drop, refl, ap, ◌∙◌, sym, subst, arith, length-append, ◌==◌, before_last, after_last, nat_tests, decimal_digit, is_slash}
+use Rattle.test_tree.proofs.Prelude.{joined, parent_of, base_of, around_slash, name_of, path_down, place, place_over}
+use Rattle.test_tree.specs.Nodes.{path_of}
 use Rattle.test_tree.proofs.Numbered.{name_bare, name_short, name_tells}
 
 -- levels that suffice change nothing

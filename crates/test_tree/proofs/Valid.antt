@@ -1,9 +1,6 @@
 -- The path of a node is a path.
-use Rattle.std.proofs.Common.{◌≡◌, ℕ, ◌/◌, ◌<◌, ◌≤◌, zero, suc, List, [], ◌∷◌, length, None, refl, ap, ◌∙◌, arith}
-use Rattle.std.specs.Bool.{IsTrue}
-use Rattle.path_text.specs.Path.{refusal, is_name, joined}
-use Rattle.path_text.proofs.Joined.{name_alone, refusal_joined}
-use Rattle.test_tree.specs.Nodes.{name_of, path_of}
+use Rattle.test_tree.proofs.Prelude.{◌≡◌, ℕ, ◌/◌, ◌<◌, ◌≤◌, zero, suc, List, [], ◌∷◌, length, None, refl, ap, ◌∙◌, arith, IsTrue, refusal, is_name, joined}
+use Rattle.test_tree.proofs.Prelude.{name_alone, refusal_joined, name_of, path_of}
 use Rattle.test_tree.proofs.Numbered.{name_fine}
 use Rattle.test_tree.proofs.Placed.{path_of-zero, path_of-suc, path_fits}
 

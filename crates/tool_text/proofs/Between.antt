@@ -1,9 +1,6 @@
 -- The lines of the entries from one place to another.
-use Rattle.std.proofs.Common.{◌≡◌, ℕ, ◌+◌, ◌≤◌, List, [], ◌++◌, length, take, drop, arith, ap, sym, ◌∙◌}
-use Rattle.std.proofs.lemmas.List.{take-append-drop, take-append-le, drop-append-le, drop_all, length-take-le}
-use Rattle.std.proofs.lemmas.List.Concat.{flat_map-append}
-use Rattle.entry_pages.specs.declared.entries.Entry.{Entry}
-use Rattle.tool_text.specs.Lines.{line_of, lines_of, lines_between}
+use Rattle.tool_text.proofs.Prelude.{◌≡◌, ℕ, ◌+◌, ◌≤◌, List, [], ◌++◌, length, take, drop, arith, ap, sym, ◌∙◌, take-append-drop, take-append-le}
+use Rattle.tool_text.proofs.Prelude.{drop-append-le, drop_all, length-take-le, flat_map-append, Entry, line_of, lines_of, lines_between}
 
 -- nothing is between a place and itself
 pub between_none : (n : ℕ) (es : List Entry) → n ≤ length es → lines_between n n es ≡ []

@@ -1,4 +1,4 @@
 -- What stands and what is added behind it.
-use Rattle.std.proofs.lemmas.List.{take-append-le, drop-append-le, take-append-drop}
+use Rattle.tool_text.proofs.Prelude.{take-append-le, drop-append-le, take-append-drop}
 
 pub ruleset drafted = (take-append-le, drop-append-le, take-append-drop)

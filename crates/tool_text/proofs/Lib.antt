@@ -1,3 +1,4 @@
+mod Prelude
 pub mod Drafted
 pub mod Noted
 pub mod Ascending

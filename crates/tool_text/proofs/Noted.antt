@@ -1,16 +1,8 @@
 -- How many notes entries have.
-use Rattle.std.proofs.Common.{◌≡◌, ℕ, ◌+◌, false, List, [], ◌∷◌, ◌++◌, length, cond, refl, ap, ◌∙◌, arith, length-append}
-use Rattle.std.proofs.lemmas.List.{length-map}
-use Rattle.std.specs.List.{sum_by}
-use Rattle.std.proofs.lemmas.List.Concat.{length-flat_map}
-use Rattle.std.specs.Prelude.{◌==◌}
-use Rattle.entry_pages.specs.declared.entries.Entry.{Entry}
-use Rattle.entry_pages.specs.declared.entries.Mark.{Mark}
+use Rattle.tool_text.proofs.Prelude.{◌≡◌, ℕ, ◌+◌, false, List, [], ◌∷◌, ◌++◌, length, cond, refl, ap, ◌∙◌, arith, length-append, length-map, sum_by}
+use Rattle.tool_text.proofs.Prelude.{length-flat_map, ◌==◌, Entry, Mark, note_count, mark_notes, Why, mark_whys, number_whys, whys_of, entry_notes, notes_of}
 use Rattle.entry_pages.specs.declared.entries.Mark.TheVariants as mark
-use Rattle.entry_pages.specs.Entries.{note_count, mark_notes}
-use Rattle.tool_text.specs.declared.noting.Why.{Why}
 use Rattle.tool_text.specs.declared.noting.Why.TheVariants as why
-use Rattle.tool_text.specs.Notes.{mark_whys, number_whys, whys_of, entry_notes, notes_of}
 
 by_mark : (m : Mark) → length (mark_whys m) ≡ mark_notes m
 by_mark mark.Fine = refl

@@ -1,18 +1,8 @@
 -- The order of notes is a total order in which only equal notes tie.
-use Rattle.std.proofs.Common.{◌≡◌, ℕ, Bool, true, false, refl, sym, ◌∙◌}
-use Rattle.std.specs.Prelude.{◌==◌, if◌then◌else◌}
-use Rattle.std.specs.Cmp.{IsTotalOrder, Equal-is, bool_cmp_total}
-use Rattle.std.specs.FinMap.{nat_cmp-IsAntisymmetric}
-use Rattle.std.specs.Ordering.{ordering_then, nat_cmp, bool_cmp, eq_by_cmp}
-use Rattle.std.specs.declared.cmp.Ordering.{Ordering}
-use Rattle.std.specs.declared.cmp.Ordering.TheVariants.{Less, Equal, Greater}
-use Rattle.std.proofs.lemmas.Cmp.{on_total, then_total, nat_cmp_total}
-use Rattle.path_text.specs.Order.{path_cmp}
-use Rattle.path_text.specs.Total.{path_cmp_total, path_cmp_same}
-use Rattle.tool_text.specs.declared.noting.Why.{Why}
+use Rattle.tool_text.proofs.Prelude.{◌≡◌, ℕ, Bool, true, false, refl, sym, ◌∙◌, ◌==◌, if◌then◌else◌, IsTotalOrder, Equal-is, bool_cmp_total}
+use Rattle.tool_text.proofs.Prelude.{nat_cmp-IsAntisymmetric, ordering_then, nat_cmp, bool_cmp, eq_by_cmp, Ordering, Less, Equal, Greater, on_total, then_total}
+use Rattle.tool_text.proofs.Prelude.{nat_cmp_total, path_cmp, path_cmp_total, path_cmp_same, Why, Note, why_place, why_number, why_cmp, note_cmp}
 use Rattle.tool_text.specs.declared.noting.Why.TheVariants as why
-use Rattle.tool_text.specs.declared.noting.Note.{Note}
-use Rattle.tool_text.specs.NoteOrder.{why_place, why_number, why_cmp, note_cmp}
 
 why_total : IsTotalOrder why_cmp
 why_total = then_total (on_total why_place nat_cmp_total) (on_total why_number nat_cmp_total)

@@ -1,27 +1,14 @@
 -- The notes of entries in path order, a sort without doubles, and the laws of the order.
-use Rattle.std.proofs.Common.{◌≡◌, ℕ, ◌<◌, Bool, true, false, cond, List, [], ◌∷◌, ◌++◌, map, length, refl, ap, ◌∙◌, arith}
-use Rattle.std.specs.Prelude.{◌==◌}
-use Rattle.std.specs.Cmp.{tied_itself, eq_by_cmp_equiv}
-use Rattle.std.specs.List.{AllByRecursion, dedup}
-use Rattle.std.specs.List.Sorted.{IsPermutation, IsSorted, IsStrictlySortedBy}
-use Rattle.std.specs.Ordering.{ordering_then, eq_by_cmp}
-use Rattle.std.specs.declared.cmp.Ordering.TheVariants.{Less}
-use Rattle.std.proofs.lemmas.List.Kept.{Contains-dedup, Contains-from_dedup, IsStrictlySortedBy-dedup}
-use Rattle.std.proofs.lemmas.List.Sorted.{Contains-permutation, IsPermutation-sym}
-use Rattle.path_text.specs.Order.{path_cmp}
-use Rattle.path_text.specs.Total.{path_cmp_total}
-use Rattle.entry_pages.specs.declared.entries.Entry.{Entry}
-use Rattle.entry_pages.specs.declared.entries.Mark.{Mark}
+use Rattle.tool_text.proofs.Prelude.{◌≡◌, ℕ, ◌<◌, Bool, true, false, cond, List, [], ◌∷◌, ◌++◌, map, length, refl, ap, ◌∙◌, arith, ◌==◌, tied_itself}
+use Rattle.tool_text.proofs.Prelude.{eq_by_cmp_equiv, AllByRecursion, dedup, IsPermutation, IsSorted, ordering_then, eq_by_cmp, Less, Contains-dedup}
+use Rattle.tool_text.proofs.Prelude.{Contains-from_dedup, IsStrictlySortedBy-dedup, Contains-permutation, IsPermutation-sym, path_cmp, path_cmp_total, Entry}
+use Rattle.tool_text.proofs.Prelude.{Mark, Why, Note, mark_whys, whys_of, entry_notes, notes_of, why_cmp, note_cmp, AreInOrder, NotesStandInOrder}
+use Rattle.tool_text.proofs.Prelude.{OrderIsUnique, NothingToOrder, all_join, all_weaker}
+use Rattle.std.specs.List.Sorted.{IsStrictlySortedBy}
 use Rattle.entry_pages.specs.declared.entries.Mark.TheVariants as mark
-use Rattle.tool_text.specs.declared.noting.Why.{Why}
 use Rattle.tool_text.specs.declared.noting.Why.TheVariants as why
-use Rattle.tool_text.specs.declared.noting.Note.{Note}
-use Rattle.tool_text.specs.Notes.{mark_whys, whys_of, entry_notes, notes_of}
-use Rattle.tool_text.specs.NoteOrder.{why_cmp, note_cmp, AreInOrder, NotesStandInOrder, OrderIsUnique, NothingToOrder}
 use Rattle.tool_text.proofs.NotesCompared.{note_total, only_same}
 use Rattle.tool_text.proofs.Ascending.{first_in, none_in, fixed_by_elements}
-use Rattle.flat_list.proofs.Pieces.{all_join}
-use Rattle.outside.proofs.Names.{all_weaker}
 
 -- after a sort and without doubles
 pub sorted_once : (given sorted notes : List Note) →

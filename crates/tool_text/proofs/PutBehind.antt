@@ -1,9 +1,6 @@
 -- Bytes that a sink takes one after another, where it fails before the last.
-use Rattle.std.proofs.Common.{◌≡◌, ℕ, ◌+◌, List, ◌++◌, length, take, Option, Some, None, IfSome, ap, ◌∙◌, sym, subst, arith}
-use Rattle.std.proofs.Common.{append_assoc, length-append}
-use Rattle.std.proofs.lemmas.List.{take-append-le}
-use Rattle.std.proofs.Math.Seq.{take-append-add}
-use Rattle.outside.specs.Sinks.{GrewByPrefix}
+use Rattle.tool_text.proofs.Prelude.{◌≡◌, ℕ, ◌+◌, List, ◌++◌, length, take, Option, Some, None, IfSome, ap, ◌∙◌, sym, subst, arith, append_assoc, length-append}
+use Rattle.tool_text.proofs.Prelude.{take-append-le, take-append-add, GrewByPrefix}
 
 abbrev pub PutPart : Option (List ℕ) → Option (List ℕ) → List ℕ → Type 0
 PutPart was next bytes = IfSome was (λ old. IfSome next (GrewByPrefix bytes old))

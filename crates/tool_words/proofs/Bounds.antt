@@ -1,35 +1,20 @@
 -- All that words give is within the limits, word by word.
-use Rattle.std.proofs.Common.{◌^◌, ◌≡◌, ◌≢◌, ℕ, ◌+◌, ◌≤◌, ◌<◌, Bool, true, false, cond, refl, ap, sym, ◌∙◌, arith, Option, Some, None}
-use Rattle.std.proofs.Common.{List, [], ◌∷◌, ◌++◌, length, find}
-use Rattle.std.specs.Prelude.{Result, Ok, Err, All, IfSome, IfOk, is_some, nat_lt}
-use Rattle.std.specs.Option.{option_map, option_or}
-use Rattle.std.specs.List.{AllByRecursion}
-use Rattle.std.proofs.lemmas.List.Elements.{All-cons, All-from_recursion, All-take}
-use Rattle.std.proofs.lemmas.List.Folds.{find-append}
-use Rattle.std.proofs.lemmas.Bool.Decides.{nat_tests}
-use Rattle.flat_list.specs.declared.ordering.Field.{Field}
-use Rattle.path_text.specs.Path.{refusal}
+use Rattle.tool_words.proofs.Prelude.{◌^◌, ◌≡◌, ◌≢◌, ℕ, ◌+◌, ◌≤◌, ◌<◌, Bool, true, false, cond, refl, ap, sym, ◌∙◌, arith, Option, Some, None, List, [], ◌∷◌}
+use Rattle.tool_words.proofs.Prelude.{◌++◌, length, find, Result, Ok, Err, All, IfSome, IfOk, is_some, nat_lt, option_map, option_or, AllByRecursion, All-cons}
+use Rattle.tool_words.proofs.Prelude.{All-from_recursion, All-take, find-append, nat_tests, Field, refusal, Common, Refusal, Tool, OptionName, Placed, Turn}
+use Rattle.tool_words.proofs.Prelude.{Origin, roots, input, Asked, walk_by, place_of, trace_on_hosts, trace_and_stop, clash_in, Valid, Lower, paths_in}
+use Rattle.tool_words.proofs.Prelude.{CommonWithin, ChoiceWithin, Within, tool_named, option_named, Set, set, raise, is, number_in, path_in, lower_path_in}
+use Rattle.tool_words.proofs.Prelude.{ends_options, is_option, name_in, value_in, Given, nothing, and_then, at_end, with_words, with_path, with_lower}
+use Rattle.tool_words.proofs.Prelude.{with_number, with_plain, with_settings, is_repeated, with_another, with_own_value, with_next_value, with_flag}
+use Rattle.tool_words.proofs.Prelude.{with_option, with_word, start_by, begin_by, sides_by, sources_by, roots_by, nodes_by, choice_of, asked_of, unless_clash}
+use Rattle.tool_words.proofs.Prelude.{command_of, reading_for, reading}
 use Rattle.tool_words.proofs.SettingsFit.{one_of, both, one_more, FileValid, Fits, Counts, Fine, Makeable, Stands, FineSoFar, path_valid, path_lower}
 use Rattle.tool_words.proofs.SettingsFit.{set_fine, raise_fine, SameTrace, set_leaves}
 use Rattle.tool_words.proofs.Numbers.{number_within}
-use Rattle.tool_words.specs.declared.commands.Common.{Common}
-use Rattle.tool_words.specs.declared.errors.Refusal.{Refusal}
-use Rattle.tool_words.specs.declared.tables.Tool.{Tool}
 use Rattle.tool_words.specs.declared.tables.Tool.TheVariants as tool
-use Rattle.tool_words.specs.declared.tables.OptionName.{OptionName}
 use Rattle.tool_words.specs.declared.tables.OptionName.TheVariants as option
-use Rattle.tool_words.specs.declared.tables.Placed.{Placed}
-use Rattle.tool_words.specs.declared.turns.Turn.{Turn}
 use Rattle.tool_words.specs.declared.turns.Turn.TheVariants as turn
-use Rattle.tool_words.specs.Asked.{Origin, roots, input, Asked, walk_by}
-use Rattle.tool_words.specs.Clashes.{place_of, trace_on_hosts, trace_and_stop, clash_in}
-use Rattle.tool_words.specs.Limits.{Valid, Lower, paths_in, CommonWithin, ChoiceWithin, Within}
-use Rattle.tool_words.specs.Table.{tool_named, text_of, option_named, Set, set, raise}
-use Rattle.tool_words.specs.Value.{is, number_in, path_in, lower_path_in}
-use Rattle.tool_words.specs.Words.{ends_options, is_option, name_in, value_in, Given, nothing, and_then, at_end, with_words}
-use Rattle.tool_words.specs.Words.{with_path, with_lower, with_number, with_plain, with_settings, is_repeated, with_another, with_own_value, with_next_value}
-use Rattle.tool_words.specs.Words.{with_flag, with_option, with_word, start_by, begin_by, sides_by, sources_by, roots_by, nodes_by, choice_of}
-use Rattle.tool_words.specs.Words.{asked_of, unless_clash, command_of, reading_for, reading}
+use Rattle.tool_words.specs.Table.{text_of}
 
 -- the option is `--trace`
 abbrev is_trace : Placed → Bool

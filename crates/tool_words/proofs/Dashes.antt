@@ -1,9 +1,6 @@
 -- A text that does not begin with `-`.
-use Rattle.std.proofs.Common.{◌≡◌, ◌≢◌, ℕ, true, false, List, [], ◌∷◌, refl, ap, arith, None}
-use Rattle.std.specs.Prelude.{◌==◌, slice_index}
-use Rattle.std.specs.Str.Pattern.{FindsCharPrefix}
-use Rattle.std.proofs.lemmas.Str.Pattern.{strip_prefix_char}
-use Rattle.std.proofs.lemmas.Bool.Decides.{nat_tests}
+use Rattle.tool_words.proofs.Prelude.{◌≡◌, ◌≢◌, ℕ, true, false, List, [], ◌∷◌, refl, ap, arith, None, ◌==◌, slice_index, FindsCharPrefix, strip_prefix_char}
+use Rattle.tool_words.proofs.Prelude.{nat_tests}
 
 the_dash : (b : ℕ) → (b == 45) ≡ true → b ≡ 45
 the_dash b e = grind (arith, nat_tests)

@@ -1,13 +1,6 @@
 -- An option is looked for group by group.
-use Rattle.std.proofs.Common.{◌≡◌, ◌∙◌, ℕ, ◌<◌, true, List, length, drop, get_or, find, refl, ap, sym, Option, Some, None, drop-cons, suc}
-use Rattle.std.specs.Prelude.{is_some}
-use Rattle.std.specs.List.{flat_map}
-use Rattle.std.specs.Option.{option_or}
-use Rattle.std.proofs.lemmas.List.Folds.{find-append}
-use Rattle.tool_words.specs.declared.tables.Group.{Group}
-use Rattle.tool_words.specs.declared.tables.OptionName.{OptionName}
-use Rattle.tool_words.specs.Table.{text_of, options_in}
-use Rattle.tool_words.specs.Value.{is}
+use Rattle.tool_words.proofs.Prelude.{◌≡◌, ◌∙◌, ℕ, ◌<◌, true, List, length, drop, get_or, find, refl, ap, sym, Option, Some, None, drop-cons, suc, is_some}
+use Rattle.tool_words.proofs.Prelude.{flat_map, option_or, find-append, Group, OptionName, text_of, options_in, is}
 
 some_stays : {X : Type 0} (o rest : Option X) → is_some o ≡ true → option_or o rest ≡ o
 some_stays (Some x) rest s = refl

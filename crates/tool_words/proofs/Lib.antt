@@ -1,3 +1,4 @@
+mod Prelude
 pub mod Bounds
 pub mod Dashes
 pub mod Groups

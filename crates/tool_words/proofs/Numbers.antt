@@ -1,12 +1,6 @@
 -- Numbers as texts of digits.
-use Rattle.std.proofs.Common.{◌≡◌, ℕ, ◌<◌, ◌≤◌, ◌^◌, true, List, length, refl, arith, rules, Some, None}
-use Rattle.std.specs.Prelude.{Err}
-use Rattle.std.specs.Char.{is_ascii_digit}
-use Rattle.std.specs.List.{list_all}
-use Rattle.std.specs.Str.Parse.{digits_value, ParsesUnsigned}
-use Rattle.std.proofs.lemmas.Bool.Decides.{nat_tests}
-use Rattle.std.proofs.lemmas.Str.Parse.{IsNumeralModel, numerals_by_value, parse_digits}
-use Rattle.tool_words.specs.Value.{number_in}
+use Rattle.tool_words.proofs.Prelude.{◌≡◌, ℕ, ◌<◌, ◌≤◌, ◌^◌, true, List, length, refl, arith, rules, Some, None, Err, is_ascii_digit, list_all, digits_value}
+use Rattle.tool_words.proofs.Prelude.{ParsesUnsigned, nat_tests, IsNumeralModel, numerals_by_value, parse_digits, number_in}
 
 digits : IsNumeralModel (λ text. list_all is_ascii_digit text ≡ true) (digits_value 10)
 digits = numerals_by_value _ (search rules)

@@ -1,26 +1,11 @@
 -- The settings that words give are within the limits, option by option.
-use Rattle.std.proofs.Common.{◌-◌, ◌^◌, ◌≡◌, ◌≢◌, ℕ, ◌+◌, ◌≤◌, ◌<◌, Bool, true, false, cond, refl, arith, Option, Some, None}
-use Rattle.std.proofs.Common.{List, [], ◌∷◌, ◌++◌, length}
-use Rattle.std.specs.Prelude.{◌==◌, Result, Ok, Err, IfSome, IfOk, is_none, is_some, nat_lt}
-use Rattle.std.specs.Option.{option_map}
-use Rattle.std.specs.List.{AllByRecursion, before_first, after_first, position_or_len}
-use Rattle.std.proofs.lemmas.Bool.Decides.{nat_tests}
-use Rattle.path_text.specs.Path.{refusal}
-use Rattle.tree_cmp.specs.declared.conditions.Condition.{Condition}
-use Rattle.tree_cmp.specs.Expressions.{expr_reading}
+use Rattle.tool_words.proofs.Prelude.{◌-◌, ◌^◌, ◌≡◌, ◌≢◌, ℕ, ◌+◌, ◌≤◌, ◌<◌, Bool, true, false, cond, refl, arith, Option, Some, None, List, [], ◌∷◌, ◌++◌}
+use Rattle.tool_words.proofs.Prelude.{length, ◌==◌, Result, Ok, Err, IfSome, IfOk, is_none, is_some, nat_lt, option_map, AllByRecursion, before_first}
+use Rattle.tool_words.proofs.Prelude.{after_first, position_or_len, nat_tests, refusal, Condition, expr_reading, Common, Want, Refusal, OptionName, Placed}
+use Rattle.tool_words.proofs.Prelude.{input, place_of, Valid, Lower, Set, set, raise, trimmed, number_in, split_in, path_in, lower_path_in, order_in, test_in}
+use Rattle.tool_words.proofs.Prelude.{is_colon, if_expr, want_by, want_in, Given, and_then}
 use Rattle.tool_words.proofs.Numbers.{number_within}
-use Rattle.tool_words.specs.declared.commands.Common.{Common}
-use Rattle.tool_words.specs.declared.commands.Want.{Want}
-use Rattle.tool_words.specs.declared.errors.Refusal.{Refusal}
-use Rattle.tool_words.specs.declared.tables.OptionName.{OptionName}
 use Rattle.tool_words.specs.declared.tables.OptionName.TheVariants as option
-use Rattle.tool_words.specs.declared.tables.Placed.{Placed}
-use Rattle.tool_words.specs.Asked.{input}
-use Rattle.tool_words.specs.Clashes.{place_of}
-use Rattle.tool_words.specs.Limits.{Valid, Lower}
-use Rattle.tool_words.specs.Table.{Set, set, raise}
-use Rattle.tool_words.specs.Value.{trimmed, number_in, split_in, path_in, lower_path_in, order_in, test_in, is_colon, if_expr, want_by, want_in}
-use Rattle.tool_words.specs.Words.{Given, and_then}
 
 pub one_of : {X : Type 0} (P : X → Type 0) (b : Bool) (x y : X) → P x → P y → P (cond b x y)
 one_of P true x y h g = h

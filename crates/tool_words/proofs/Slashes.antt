@@ -1,14 +1,7 @@
 -- The slashes at the end of a text, cut off one by one.
-use Rattle.std.proofs.Common.{◌≡◌, ◌≢◌, ℕ, suc, ◌-◌, true, false, ◌&&◌, cond, refl, ap, ◌∙◌, sym, arith, Option, Some, None}
-use Rattle.std.proofs.Common.{List, [], ◌∷◌, ◌++◌, length, take, take-append-drop}
-use Rattle.std.proofs.Math.Seq.{drop-length}
-use Rattle.std.specs.Prelude.{◌==◌, IfSome}
-use Rattle.std.specs.Str.Pattern.{FindsCharSuffix, CutsSuffixes, IsTrimEndMatches}
-use Rattle.std.proofs.lemmas.Str.Pattern.{drop_at_char, strip_suffix_char}
-use Rattle.std.proofs.lemmas.Bool.Decides.{nat_tests}
-use Rattle.path_text.specs.Path.{is_slash}
-use Rattle.tool_words.specs.Value.{before_end_slashes}
-use Rattle.path_text.proofs.Parents.{slash_is}
+use Rattle.tool_words.proofs.Prelude.{◌≡◌, ◌≢◌, ℕ, suc, ◌-◌, true, false, ◌&&◌, cond, refl, ap, ◌∙◌, sym, arith, Option, Some, None, List, [], ◌∷◌, ◌++◌}
+use Rattle.tool_words.proofs.Prelude.{length, take, take-append-drop, drop-length, ◌==◌, IfSome, FindsCharSuffix, CutsSuffixes, IsTrimEndMatches, drop_at_char}
+use Rattle.tool_words.proofs.Prelude.{strip_suffix_char, nat_tests, is_slash, before_end_slashes, slash_is}
 
 one_more : (text : List ℕ) → before_end_slashes (text ++ 47 ∷ []) ≡ before_end_slashes text
 one_more [] = refl

@@ -1,15 +1,8 @@
 -- Words read one by one from left to right: what was given before a place, and what is left.
-use Rattle.std.proofs.Common.{◌≡◌, ℕ, suc, ◌+◌, ◌<◌, inl, inr, refl, ap, subst, ◌∙◌, sym, arith, None}
-use Rattle.std.proofs.Common.{List, ◌∷◌, length, drop, map, get_or, drop-cons}
-use Rattle.std.specs.Prelude.{Result, Ok, Err, IsErrAnd}
-use Rattle.std.specs.List.{drop-map}
-use Rattle.tool_words.specs.declared.errors.Refusal.{Refusal}
-use Rattle.tool_words.specs.declared.errors.WordsError.{WordsError}
+use Rattle.tool_words.proofs.Prelude.{◌≡◌, ℕ, suc, ◌+◌, ◌<◌, inl, inr, refl, ap, subst, ◌∙◌, sym, arith, None, List, ◌∷◌, length, drop, map, get_or, drop-cons}
+use Rattle.tool_words.proofs.Prelude.{Result, Ok, Err, IsErrAnd, drop-map, Refusal, WordsError, Tool, Tells, Reads, refusal_in, Given, nothing, with_word}
+use Rattle.tool_words.proofs.Prelude.{and_then, with_words}
 use Rattle.tool_words.specs.declared.errors.WordsError.TheVariants as error
-use Rattle.tool_words.specs.declared.tables.Tool.{Tool}
-use Rattle.tool_words.specs.Parts.{Tells, Reads}
-use Rattle.tool_words.specs.Refusals.{refusal_in}
-use Rattle.tool_words.specs.Words.{Given, nothing, with_word, and_then, with_words}
 
 -- the words before a place gave this
 pub record Read (tool : Tool) (words : List (List ℕ)) (at : ℕ) (given : Given) : Type 0 where

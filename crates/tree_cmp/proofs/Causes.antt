@@ -1,18 +1,9 @@
 -- What is named as missed was asked for at its path, and answered so.
-use Rattle.std.proofs.Common.{◌≡◌, ℕ, Bool, true, false, List, [], ◌∷◌, refl, sym, subst, Option, Some, None, IfSome, All}
-use Rattle.std.specs.List.{AllByRecursion, filter_map, cons_option}
-use Rattle.std.proofs.lemmas.List.Elements.{recursion_from_All, All-from_recursion}
-use Rattle.outside.specs.Asked.{Asks}
-use Rattle.outside.specs.Tree.{Files}
-use Rattle.tree_cmp.specs.declared.drafts.Draft.{Draft}
-use Rattle.tree_cmp.specs.declared.reading.Missing.{Missing}
+use Rattle.tree_cmp.proofs.Prelude.{◌≡◌, ℕ, Bool, true, false, List, [], ◌∷◌, refl, sym, subst, Option, Some, None, IfSome, All, AllByRecursion, filter_map}
+use Rattle.tree_cmp.proofs.Prelude.{cons_option, recursion_from_All, All-from_recursion, Asks, Files, Draft, Missing, Missed, HaveCauses, ShowsMissing, IsOf}
+use Rattle.tree_cmp.proofs.Prelude.{IsSettled, side_missed, missed_at, missed_by, findings_of}
 use Rattle.tree_cmp.specs.declared.reading.Missing.TheVariants as missing
 use Rattle.tree_cmp.specs.declared.reading.Outcome.TheVariants as outcome
-use Rattle.tree_cmp.specs.declared.rows.Missed.{Missed}
-use Rattle.tree_cmp.specs.Readers.{HaveCauses}
-use Rattle.tree_cmp.specs.Filling.{ShowsMissing}
-use Rattle.tree_cmp.specs.Private.Sharing.{IsOf, IsSettled}
-use Rattle.tree_cmp.specs.Private.Parts.{side_missed, missed_at, missed_by, findings_of}
 use Rattle.tree_cmp.proofs.OneRow.{of_map, side_is}
 
 module _ {S : Type 0} (gives : Asks S) (tree : Option Files) (left right : List ℕ) where

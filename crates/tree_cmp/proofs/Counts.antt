@@ -1,6 +1,5 @@
 -- Counts of faults of several readers.
-use Rattle.std.proofs.Common.{◌≡◌, ℕ, List, [], ◌∷◌, arith}
-use Rattle.tree_cmp.specs.Readers.{NoneFell, RoseTogether}
+use Rattle.tree_cmp.proofs.Prelude.{◌≡◌, ℕ, List, [], ◌∷◌, arith, NoneFell, RoseTogether}
 
 pub NoneFell-same : (counts : List ℕ) → NoneFell counts counts
 NoneFell-same [] = tt

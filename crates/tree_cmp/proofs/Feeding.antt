@@ -1,16 +1,7 @@
 -- An entry more of a list.
-use Rattle.std.proofs.Common.{◌≡◌, ℕ, ◌+◌, ◌-◌, ◌<◌, zero, suc, Bool, true, false, not, if◌then◌else◌, All, List, [], ◌∷◌, map, filter, drop}
-use Rattle.std.proofs.Common.{ap, ◌∙◌, sym, subst, cond, arith, Some}
-use Rattle.std.specs.List.{slice_get}
-use Rattle.std.specs.Option.{option_map}
-use Rattle.path_text.specs.Graft.{below_of}
-use Rattle.entry_pages.specs.declared.entries.Entry.{Entry}
-use Rattle.tree_cmp.specs.declared.items.Item.{Item}
-use Rattle.tree_cmp.specs.declared.items.Feed.{Feed}
-use Rattle.tree_cmp.specs.Sides.{is_gone}
-use Rattle.tree_cmp.specs.Private.Items.{items_of, item_of}
-use Rattle.tree_cmp.specs.Private.Steps.{IsCurrent}
-use Rattle.flat_list.proofs.Turns.{step_more}
+use Rattle.tree_cmp.proofs.Prelude.{◌≡◌, ℕ, ◌+◌, ◌-◌, ◌<◌, zero, suc, Bool, true, false, not, if◌then◌else◌, All, List, [], ◌∷◌, map, filter, drop, ap, ◌∙◌}
+use Rattle.tree_cmp.proofs.Prelude.{sym, subst, cond, arith, Some, slice_get, option_map, below_of, Entry, Item, Feed, is_gone, items_of, item_of, IsCurrent}
+use Rattle.tree_cmp.proofs.Prelude.{step_more}
 
 drop_at : (es : List Entry) (n : ℕ) (e : Entry) → slice_get es n ≡ Some e → drop n es ≡ e ∷ drop (suc n) es
 drop_at [] n e h = cc

@@ -1,13 +1,7 @@
 -- A buffer is filled piece by piece.
-use Rattle.std.proofs.Common.{◌≡◌, ℕ, zero, suc, refl, ◌+◌, ◌<◌, ◌≤◌, true, List, ◌++◌, length, take, drop, Option, Some, None, IfSome, ap, ◌∙◌}
-use Rattle.std.proofs.Common.{sym, arith, length-append}
-use Rattle.std.proofs.lemmas.List.{take-take, drop-drop, length-take-le}
-use Rattle.std.proofs.lemmas.Slice.{take-put_mid}
-use Rattle.std.proofs.Math.Seq.{take-append-add, take-add}
-use borrow.Rule.Slice.PartMut.{put_mid}
-use Rattle.std.specs.FinMap.{get}
-use Rattle.outside.specs.Tree.{Files, Node, Reads, content, is_file}
-use Rattle.tree_cmp.specs.Filling.{Fills}
+use Rattle.tree_cmp.proofs.Prelude.{◌≡◌, ℕ, zero, suc, refl, ◌+◌, ◌<◌, ◌≤◌, true, List, ◌++◌, length, take, drop, Option, Some, None, IfSome, ap, ◌∙◌, sym}
+use Rattle.tree_cmp.proofs.Prelude.{arith, length-append, take-take, drop-drop, length-take-le, take-put_mid, take-append-add, take-add, put_mid, get, Files}
+use Rattle.tree_cmp.proofs.Prelude.{Node, Reads, content, is_file, Fills}
 
 front : (done k n : ℕ) (into sub : List ℕ) → done ≤ length into → n ≤ length sub → take (done + n) (put_mid done k into sub) ≡ take done into ++ take n sub
 front done k n into sub h g =

@@ -1,44 +1,18 @@
 -- The findings that settled rows make are those of the two sides.
-use Rattle.std.proofs.Common.{◌≡◌, ℕ, ◌+◌, Bool, true, false, ◌||◌, List, [], ◌∷◌, ◌++◌, map, refl, sym, subst, ap}
-use Rattle.std.proofs.Common.{◌∙◌, cond, eqb, Option, Some, None, is_some, IfSome, All}
-use Rattle.std.specs.List.{AllByRecursion, list_any, filter_map, cons_option}
+use Rattle.tree_cmp.proofs.Prelude.{◌≡◌, ℕ, ◌+◌, Bool, true, false, ◌||◌, List, [], ◌∷◌, ◌++◌, map, refl, sym, subst, ap, ◌∙◌, cond, eqb, Option, Some, None}
+use Rattle.tree_cmp.proofs.Prelude.{is_some, IfSome, All, AllByRecursion, list_any, filter_map, cons_option, get, option_map, pointwise, bytes_decides, Less}
+use Rattle.tree_cmp.proofs.Prelude.{recursion_from_All, All-from_recursion, All-append, list_any-append, path_cmp, below_of, grafted, GraftUndoesBelow, Asks}
+use Rattle.tree_cmp.proofs.Prelude.{Files, Entry, size_by, Item, Draft, Missing, Outcome, Missed, Row, Side, IsSide, entry_at, is_shown, stat_at, is_read}
+use Rattle.tree_cmp.proofs.Prelude.{sizes, unread, kinds, exist_of, same_bytes, IsRow, row_path, is_missed, WasToBeRead, IsComparison, StatsTold, items_of, at}
+use Rattle.tree_cmp.proofs.Prelude.{to_read, links_at, content_before, draft_of, AreDrafts, paths, is_row, IsFileOf, Told, ToldAt, IsOf, IsSettled, unsettled}
+use Rattle.tree_cmp.proofs.Prelude.{row_by, side_missed, missed_at, missed_by, findings_of, false_from_ne_true, irreflexive}
 use Rattle.std.specs.List.Sorted.{IsStrictlySortedBy}
-use Rattle.std.specs.FinMap.{get}
-use Rattle.std.specs.Option.{option_map}
-use Rattle.std.specs.Cmp.Lexicographic.{pointwise, bytes_decides}
-use Rattle.std.specs.declared.cmp.Ordering.TheVariants.{Less}
-use Rattle.std.proofs.lemmas.List.Elements.{recursion_from_All, All-from_recursion, All-append}
-use Rattle.std.proofs.lemmas.List.Folds.{list_any-append}
-use Rattle.path_text.specs.Order.{path_cmp}
-use Rattle.path_text.specs.Graft.{below_of, grafted, GraftUndoesBelow}
-use Rattle.outside.specs.Asked.{Asks}
-use Rattle.outside.specs.Tree.{Files}
-use Rattle.entry_pages.specs.declared.entries.Entry.{Entry}
-use Rattle.entry_pages.specs.Entries.{size_by}
-use Rattle.tree_cmp.specs.declared.items.Item.{Item}
-use Rattle.tree_cmp.specs.declared.drafts.Draft.{Draft}
-use Rattle.tree_cmp.specs.declared.reading.Missing.{Missing}
 use Rattle.tree_cmp.specs.declared.reading.Missing.TheVariants as missing
-use Rattle.tree_cmp.specs.declared.reading.Outcome.{Outcome}
 use Rattle.tree_cmp.specs.declared.reading.Outcome.TheVariants as outcome
-use Rattle.tree_cmp.specs.declared.rows.Missed.{Missed}
-use Rattle.tree_cmp.specs.declared.rows.Row.{Row}
-use Rattle.tree_cmp.specs.Sides.{Side, IsSide, entry_at, is_shown}
-use Rattle.tree_cmp.specs.Rows.{stat_at, is_read, sizes, unread, kinds, exist_of, same_bytes, IsRow, row_path}
-use Rattle.tree_cmp.specs.Rows.{is_missed, WasToBeRead, IsComparison}
-use Rattle.tree_cmp.specs.Readers.{StatsTold}
-use Rattle.tree_cmp.specs.Private.Items.{items_of, at, to_read, links_at, content_before, draft_of, AreDrafts, paths}
-use Rattle.tree_cmp.specs.Private.Steps.{is_row}
-use Rattle.tree_cmp.specs.Filling.{IsFileOf}
-use Rattle.tree_cmp.specs.Private.Reading.{Told}
-use Rattle.tree_cmp.specs.Private.Sharing.{ToldAt, IsOf, IsSettled, unsettled}
-use Rattle.tree_cmp.specs.Private.Parts.{row_by, side_missed, missed_at, missed_by, findings_of}
 use Rattle.tree_cmp.proofs.Sided.{some-items, stat-items, shown-items}
 use Rattle.tree_cmp.proofs.Taken.{rows_there}
 use Rattle.tree_cmp.proofs.OneRow.{Stands, stands, file_at, AreRead, are_read, AreEntries, are_entries}
 use Rattle.tree_cmp.proofs.OneRow.{gave_nothing, true_not_false, unread_none, content_row, of_map, side_is, not_both_missed, one_or_other}
-use Rattle.std.proofs.lemmas.Bool.{false_from_ne_true}
-use Rattle.path_text.proofs.Under.{irreflexive}
 
 -- ---- rows as they were
 

@@ -1,26 +1,12 @@
 -- What stands at the head of both sides is what they have at its path, and so are the texts of two links.
-use Rattle.std.proofs.Common.{◌≡◌, ℕ, ◌-◌, zero, suc, Bool, true, false, not, ◌&&◌, List, [], ◌∷◌, map, filter, drop, refl, ap, ◌∙◌, sym, subst, cond, eqb}
-use Rattle.std.proofs.Common.{Option, Some, None, is_some, IfSome}
-use Rattle.std.specs.List.{AllByRecursion, slice_get}
+use Rattle.tree_cmp.proofs.Prelude.{◌≡◌, ℕ, ◌-◌, zero, suc, Bool, true, false, not, ◌&&◌, List, [], ◌∷◌, map, filter, drop, refl, ap, ◌∙◌, sym, subst, cond}
+use Rattle.tree_cmp.proofs.Prelude.{eqb, Option, Some, None, is_some, IfSome, AllByRecursion, slice_get, option_map, pointwise, Less, false≢true, and_right}
+use Rattle.tree_cmp.proofs.Prelude.{path_cmp, below_of, Entry, is_of, Item, Feed, Two, Side, side, is_gone, entry_at, target_at, texts, sizes, item_of}
+use Rattle.tree_cmp.proofs.Prelude.{items_of, links_at, content_before, draft_of, ahead, Ascend, IsCurrent, current, side_of, path_of, row_after, under_some}
+use Rattle.tree_cmp.proofs.Prelude.{at_itself}
 use Rattle.std.specs.List.Sorted.{IsStrictlySortedBy}
-use Rattle.std.specs.Option.{option_map}
-use Rattle.std.specs.Cmp.Lexicographic.{pointwise}
-use Rattle.std.specs.declared.cmp.Ordering.TheVariants.{Less}
-use Rattle.std.proofs.lemmas.Bool.{false≢true, and_right}
-use Rattle.path_text.specs.Order.{path_cmp}
-use Rattle.path_text.specs.Graft.{below_of}
 use Rattle.outside.specs.declared.trees.Kind.TheVariants as kind
-use Rattle.entry_pages.specs.declared.entries.Entry.{Entry}
-use Rattle.entry_pages.specs.Entries.{is_of}
-use Rattle.tree_cmp.specs.declared.items.Item.{Item}
-use Rattle.tree_cmp.specs.declared.items.Feed.{Feed}
-use Rattle.tree_cmp.specs.declared.rows.Two.{Two}
-use Rattle.tree_cmp.specs.Sides.{Side, side, is_gone, entry_at}
-use Rattle.tree_cmp.specs.Rows.{target_at, texts, sizes}
-use Rattle.tree_cmp.specs.Private.Items.{item_of, items_of, links_at, content_before, draft_of}
-use Rattle.tree_cmp.specs.Private.Steps.{ahead, Ascend, IsCurrent, current, side_of, path_of, row_after, under_some}
 use Rattle.tree_cmp.proofs.Taken.{differ}
-use Rattle.outside.proofs.Saved.{at_itself}
 
 -- what all items have, the entry at a place has, unless it is gone
 item_in : (P : List ℕ → Type 0) (top : List ℕ) (es : List Entry) (k : ℕ) (e : Entry) → AllByRecursion P (map (λ x. x.path) (items_of top es))

@@ -1,36 +1,13 @@
 -- One row of a comparison: the entries at its path, its two files, its content, and the file of it that was missed.
-use Rattle.std.proofs.Common.{◌≡◌, ℕ, ◌+◌, Bool, true, false, not, ◌&&◌, ◌||◌, List, [], ◌∷◌, length, refl, sym, subst, ap}
-use Rattle.std.proofs.Common.{◌∙◌, arith, cond, eqb, Option, Some, None, is_some, IfSome, IsTrue}
-use Rattle.std.specs.Prelude.{◌==◌}
-use Rattle.std.specs.List.{AllByRecursion, filter_map, cons_option, find}
-use Rattle.std.specs.FinMap.{get}
-use Rattle.std.specs.Option.{option_map}
-use Rattle.std.specs.Cmp.Lexicographic.{pointwise, bytes_decides}
-use Rattle.std.proofs.lemmas.Bool.{false≢true}
-use Rattle.std.proofs.lemmas.Bool.Decides.{nat_tests}
-use Rattle.std.proofs.lemmas.List.Elements.{recursion_from_All}
-use Rattle.std.proofs.lemmas.List.Sums.{sum_by-cons}
-use Rattle.path_text.specs.Order.{is_within}
-use Rattle.path_text.specs.Graft.{below_of, grafted, GraftUndoesBelow}
-use Rattle.outside.specs.Tree.{Files, Node, Body, stat_of, kind_of, size_of, is_file_body, bytes_of}
+use Rattle.tree_cmp.proofs.Prelude.{◌≡◌, ℕ, ◌+◌, Bool, true, false, not, ◌&&◌, ◌||◌, List, [], ◌∷◌, length, refl, sym, subst, ap, ◌∙◌, arith, cond, eqb, Option}
+use Rattle.tree_cmp.proofs.Prelude.{Some, None, is_some, IfSome, IsTrue, ◌==◌, AllByRecursion, filter_map, cons_option, find, get, option_map, pointwise}
+use Rattle.tree_cmp.proofs.Prelude.{bytes_decides, false≢true, nat_tests, recursion_from_All, sum_by-cons, is_within, below_of, grafted, GraftUndoesBelow}
+use Rattle.tree_cmp.proofs.Prelude.{Files, Node, Body, stat_of, kind_of, size_of, is_file_body, bytes_of, Stat, Entry, is_kind, size_by, Draft, Missing}
+use Rattle.tree_cmp.proofs.Prelude.{Outcome, Missed, Side, IsSide, is_gone, entry_at, stat_at, is_read, are_files, unread, two_of, has_value, same_bytes}
+use Rattle.tree_cmp.proofs.Prelude.{IsContent, StatsTold, at, to_read, IsFileOf, some_counts, blames, content_by, side_missed, missed_at, missed_by, both}
 use Rattle.outside.specs.declared.trees.Kind.TheVariants as kind
-use Rattle.outside.specs.declared.trees.Stat.{Stat}
-use Rattle.entry_pages.specs.declared.entries.Entry.{Entry}
-use Rattle.entry_pages.specs.Entries.{is_kind, size_by}
-use Rattle.tree_cmp.specs.declared.drafts.Draft.{Draft}
-use Rattle.tree_cmp.specs.declared.reading.Missing.{Missing}
 use Rattle.tree_cmp.specs.declared.reading.Missing.TheVariants as missing
-use Rattle.tree_cmp.specs.declared.reading.Outcome.{Outcome}
 use Rattle.tree_cmp.specs.declared.reading.Outcome.TheVariants as outcome
-use Rattle.tree_cmp.specs.declared.rows.Missed.{Missed}
-use Rattle.tree_cmp.specs.Sides.{Side, IsSide, is_gone, entry_at}
-use Rattle.tree_cmp.specs.Rows.{stat_at, is_read, are_files, unread, two_of, has_value, same_bytes, IsContent}
-use Rattle.tree_cmp.specs.Readers.{StatsTold}
-use Rattle.tree_cmp.specs.Private.Items.{at, to_read}
-use Rattle.tree_cmp.specs.Filling.{IsFileOf}
-use Rattle.tree_cmp.specs.Private.Sharing.{some_counts, blames}
-use Rattle.tree_cmp.specs.Private.Parts.{content_by, side_missed, missed_at, missed_by}
-use Rattle.path_text.proofs.Told.{both}
 
 -- ---- an entry that is found
 

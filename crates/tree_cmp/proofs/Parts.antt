@@ -1,14 +1,9 @@
 -- The parts of a text, one after the other.
-use Rattle.std.proofs.Common.{◌≡◌, ℕ, ◌+◌, ◌<◌, ◌≤◌, true, false, List, [], ◌∷◌, ◌++◌, append_assoc, length, take, drop, refl, ap, ◌∙◌}
-use Rattle.std.proofs.Common.{sym, arith, Option, Some, None, Result, Ok, Err}
+use Rattle.tree_cmp.proofs.Prelude.{◌≡◌, ℕ, ◌+◌, ◌<◌, ◌≤◌, true, false, List, [], ◌∷◌, ◌++◌, append_assoc, length, take, drop, refl, ap, ◌∙◌, sym, arith}
+use Rattle.tree_cmp.proofs.Prelude.{Option, Some, None, Result, Ok, Err, slice_split, onto_first, position, position_or_len, IfNone, length-take-le}
+use Rattle.tree_cmp.proofs.Prelude.{slice_split_first, slice_split-cons_no, ExprError, cons_reading, place, no_place}
 use Rattle.std.specs.Prelude.{Bool}
-use Rattle.std.specs.List.{slice_split, onto_first, position, position_or_len}
-use Rattle.std.specs.Option.{IfSome, IfNone}
-use Rattle.std.proofs.lemmas.List.{length-take-le}
-use Rattle.std.proofs.lemmas.List.Splits.{slice_split_first, slice_split-cons_no}
-use Rattle.tree_cmp.specs.declared.errors.ExprError.{ExprError}
-use Rattle.tree_cmp.specs.Expressions.{cons_reading}
-use Rattle.path_text.proofs.Split.{place, no_place}
+use Rattle.std.specs.Option.{IfSome}
 
 module _ (p : ℕ → Bool) where
   split_some : (xs : List ℕ) (k : ℕ) → position p xs ≡ Some k → (k < length xs) × (slice_split p xs ≡ take k xs ∷ slice_split p (drop (k + 1) xs))

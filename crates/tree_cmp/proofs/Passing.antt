@@ -1,20 +1,11 @@
 -- One pass over the entries of a list.
-use Rattle.std.proofs.Common.{◌≡◌, ⊎_elim, ℕ, ◌+◌, ◌-◌, ◌<◌, zero, suc, Bool, List, [], ◌∷◌, ◌++◌, length, take, get_or, cond}
-use Rattle.std.proofs.Common.{true, filter, Some, None, ap, sym, ◌∙◌, subst, arith, add-one}
+use Rattle.tree_cmp.proofs.Prelude.{◌≡◌, ⊎_elim, ℕ, ◌+◌, ◌-◌, ◌<◌, zero, suc, Bool, List, [], ◌∷◌, ◌++◌, length, take, get_or, cond, true, filter, Some, None}
+use Rattle.tree_cmp.proofs.Prelude.{ap, sym, ◌∙◌, subst, arith, add-one, Less, take-suc, get_or_default, filter-append, slice_get_cases, below_of}
+use Rattle.tree_cmp.proofs.Prelude.{BelowKeepsOrder, path_cmp, is_within, path_cmp_total, Entry, IsPassed, IsNext}
 use Rattle.std.specs.Prelude.{slice_get, IsTrue}
 use Rattle.std.specs.List.{All}
-use Rattle.std.specs.List.Sorted.{IsStrictlySortedBy}
-use Rattle.std.specs.declared.cmp.Ordering.TheVariants.{Less}
-use Rattle.std.proofs.Math.Seq.{take-suc}
-use Rattle.std.proofs.lemmas.List.{get_or_default}
-use Rattle.std.proofs.lemmas.List.Elements.{filter-append}
-use Rattle.std.proofs.lemmas.Option.{slice_get_cases}
-use Rattle.path_text.specs.Graft.{below_of, BelowKeepsOrder}
-use Rattle.path_text.specs.Order.{path_cmp, is_within}
-use Rattle.path_text.specs.Total.{path_cmp_total}
-use Rattle.entry_pages.specs.declared.entries.Entry.{Entry}
 use Rattle.flat_list.specs.Spelling.{paths}
-use Rattle.tree_cmp.specs.Passes.{IsPassed, IsNext}
+use Rattle.std.specs.List.Sorted.{IsStrictlySortedBy}
 
 -- ---- where a pass stands
 

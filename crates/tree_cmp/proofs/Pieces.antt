@@ -1,17 +1,7 @@
 -- Two files compared piece by piece.
-use Rattle.std.proofs.Common.{◌≡◌, ℕ, ◌+◌, ◌≤◌, true, List, ◌++◌, take, drop, Option, Some, None, IfSome, ◌∙◌, sym}
-use Rattle.std.proofs.Common.{arith}
-use Rattle.std.proofs.lemmas.Bool.{false≢true}
-use Rattle.std.proofs.lemmas.List.{take_all}
-use Rattle.std.proofs.Math.Seq.{take-add}
-use Rattle.std.specs.FinMap.{get}
-use Rattle.std.specs.Cmp.Lexicographic.{bytes_decides}
-use Rattle.outside.specs.Tree.{Files, Node, content}
-use Rattle.tree_cmp.specs.declared.reading.Outcome.{Outcome}
-use Rattle.tree_cmp.specs.declared.reading.Outcome.TheVariants.{Same, Missed}
-use Rattle.tree_cmp.specs.Filling.{IsFileOf}
-use Rattle.tree_cmp.specs.Private.Reading.{Told, PieceTold, goes_on, counts}
-use Rattle.outside.specs.Count.{RoseBy}
+use Rattle.tree_cmp.proofs.Prelude.{◌≡◌, ℕ, ◌+◌, ◌≤◌, true, List, ◌++◌, take, drop, Option, Some, None, IfSome, ◌∙◌, sym, arith, false≢true, take_all, take-add}
+use Rattle.tree_cmp.proofs.Prelude.{get, bytes_decides, Files, Node, content, Outcome, Same, IsFileOf, Told, PieceTold, goes_on, counts, RoseBy}
+use Rattle.tree_cmp.specs.declared.reading.Outcome.TheVariants.{Missed}
 
 same_piece : (a b : Option Node) (at n : ℕ) (o : Outcome) → PieceTold a b at n o → goes_on o ≡ true
     → take n (drop at (content a)) ≡ take n (drop at (content b))

@@ -1,17 +1,7 @@
 -- Outcomes are put beside the rows, from the last one on.
-use Rattle.std.proofs.Common.{◌≡◌, ℕ, ◌+◌, ◌-◌, ◌<◌, ◌≤◌, List, [], ◌∷◌, map, length, refl, sym, subst}
-use Rattle.std.proofs.Common.{set, get_or, get_or-set_same, get_or-set_other, length-set}
-use Rattle.std.proofs.Common.{ap, ◌∙◌, arith, zero, suc, Option, Some, None, IfSome}
-use Rattle.std.proofs.lemmas.List.Sums.{sum_by-set}
-use Rattle.std.proofs.lemmas.List.{get_or-map, get_or_default}
-use Rattle.std.proofs.Math.Seq.{map-set_same}
-use mathlib.Core.Logic.{dite}
-use native.Mathlib.Decide.{ℕ_discrete}
-use Rattle.outside.specs.Asked.{Asks}
-use Rattle.outside.specs.Tree.{Files}
-use Rattle.tree_cmp.specs.declared.drafts.Draft.{Draft}
-use Rattle.tree_cmp.specs.declared.reading.Outcome.{Outcome}
-use Rattle.tree_cmp.specs.Private.Sharing.{IsOf, IsOfRow, unsettled, some_counts, blames}
+use Rattle.tree_cmp.proofs.Prelude.{◌≡◌, ℕ, ◌+◌, ◌-◌, ◌<◌, ◌≤◌, List, [], ◌∷◌, map, length, refl, sym, subst, set, get_or, get_or-set_same, get_or-set_other}
+use Rattle.tree_cmp.proofs.Prelude.{length-set, ap, ◌∙◌, arith, zero, suc, Option, Some, None, IfSome, sum_by-set, get_or-map, get_or_default, map-set_same}
+use Rattle.tree_cmp.proofs.Prelude.{dite, ℕ_discrete, Asks, Files, Draft, Outcome, IsOf, IsOfRow, unsettled, some_counts, blames}
 
 -- ---- a row that was settled
 

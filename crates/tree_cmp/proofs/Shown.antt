@@ -1,12 +1,7 @@
 -- The answer of a read for which bytes are missed.
-use Rattle.std.proofs.Common.{◌≡◌, ℕ, ◌+◌, ◌<◌, List, Ok, Err, subst, inl, inr, arith}
-use Rattle.outside.specs.Asked.{Asks}
+use Rattle.tree_cmp.proofs.Prelude.{◌≡◌, ℕ, ◌+◌, ◌<◌, List, Ok, Err, subst, inl, inr, arith, Asks, ReadError, ShowsWhole, Changed, missing, ShowsMissing}
 use Rattle.outside.specs.Asked as asked
-use Rattle.outside.specs.declared.trees.ReadError.{ReadError}
 use Rattle.outside.specs.declared.trees.ReadError.TheVariants as read
-use Rattle.tree_cmp.specs.Readers.{ShowsWhole}
-use Rattle.tree_cmp.specs.declared.reading.Missing.TheVariants.{Changed}
-use Rattle.tree_cmp.specs.Filling.{missing, ShowsMissing}
 
 module _ {S : Type 0} (gives : Asks S) where
   -- a read was refused

@@ -1,19 +1,9 @@
 -- A side as a list of items.
-use Rattle.std.proofs.Common.{◌≡◌, ℕ, true, false, not, ◌&&◌, ◌||◌, List, [], ◌∷◌, map, filter, refl, ap, ◌∙◌, cond, eqb, IsTrue}
-use Rattle.std.proofs.Common.{Option, Some, None, is_some}
-use Rattle.std.specs.List.{AllByRecursion}
+use Rattle.tree_cmp.proofs.Prelude.{◌≡◌, ℕ, true, false, not, ◌&&◌, ◌||◌, List, [], ◌∷◌, map, filter, refl, ap, ◌∙◌, cond, eqb, IsTrue, Option, Some, None}
+use Rattle.tree_cmp.proofs.Prelude.{is_some, AllByRecursion, option_map, pointwise, Less, recursion_from_All, path_cmp, is_under, is_within, below_of}
+use Rattle.tree_cmp.proofs.Prelude.{BelowKeepsOrder, Entry, side, IsSide, is_gone, is_partial, entry_at, is_hidden, is_shown, stat_at, item_of, items_of, at}
+use Rattle.tree_cmp.proofs.Prelude.{is_below_partial, has_row, item_stat, Ascend}
 use Rattle.std.specs.List.Sorted.{IsStrictlySortedBy}
-use Rattle.std.specs.Option.{option_map}
-use Rattle.std.specs.Cmp.Lexicographic.{pointwise}
-use Rattle.std.specs.declared.cmp.Ordering.TheVariants.{Less}
-use Rattle.std.proofs.lemmas.List.Elements.{recursion_from_All}
-use Rattle.path_text.specs.Order.{path_cmp, is_under, is_within}
-use Rattle.path_text.specs.Graft.{below_of, BelowKeepsOrder}
-use Rattle.entry_pages.specs.declared.entries.Entry.{Entry}
-use Rattle.tree_cmp.specs.Sides.{side, IsSide, is_gone, is_partial, entry_at, is_hidden, is_shown}
-use Rattle.tree_cmp.specs.Rows.{stat_at}
-use Rattle.tree_cmp.specs.Private.Items.{item_of, items_of, at, is_below_partial, has_row, item_stat}
-use Rattle.tree_cmp.specs.Private.Steps.{Ascend}
 
 -- ---- the items of a side ascend
 

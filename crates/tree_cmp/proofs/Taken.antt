@@ -1,26 +1,13 @@
 -- One path more: what both sides have at the next path in path order.
-use Rattle.std.proofs.Common.{◌≡◌, ℕ, ◌+◌, Bool, true, false, not, ◌&&◌, ◌||◌, List, [], ◌∷◌, ◌++◌, map, append_assoc, refl, ap}
-use Rattle.std.proofs.Common.{◌∙◌, sym, subst, arith, cond, eqb, append-nil, if◌then◌else◌, Option, Some, None, is_some}
-use Rattle.std.specs.List.{AllByRecursion, cons_option}
+use Rattle.tree_cmp.proofs.Prelude.{◌≡◌, ℕ, ◌+◌, Bool, true, false, not, ◌&&◌, ◌||◌, List, [], ◌∷◌, ◌++◌, map, append_assoc, refl, ap, ◌∙◌, sym, subst, arith}
+use Rattle.tree_cmp.proofs.Prelude.{cond, eqb, append-nil, if◌then◌else◌, Option, Some, None, is_some, AllByRecursion, cons_option, false≢true, or_from}
+use Rattle.tree_cmp.proofs.Prelude.{and_right, or_right, false_from_ne_true, pointwise, bytes_decides, is_le, is_ge, ordering_reverse, Ordering, Less, Equal}
+use Rattle.tree_cmp.proofs.Prelude.{Greater, path_cmp_total, path_cmp_same, path_cmp, is_under, IsPreorder, UnderIsContiguous, refusal, Item, Two, Draft}
+use Rattle.tree_cmp.proofs.Prelude.{All-from_recursion, at, is_below_partial, draft_of, paths, AreDrafts, Behind, under_some, BehindSome, is_partial_item}
+use Rattle.tree_cmp.proofs.Prelude.{shown_from, is_row, From, Heads, order_by, path_of, Ascend, Ready, Takes, BeforeSome, hidden_after, row_after, one_way}
+use Rattle.tree_cmp.proofs.Prelude.{irreflexive, at_itself}
 use Rattle.std.specs.List.Sorted.{IsStrictlySortedBy}
-use Rattle.std.proofs.lemmas.Bool.{false≢true, or_from, and_right, or_right, false_from_ne_true}
-use Rattle.std.specs.Cmp.Lexicographic.{pointwise, bytes_decides}
-use Rattle.std.specs.Ordering.{is_le, is_ge, ordering_reverse}
-use Rattle.std.specs.declared.cmp.Ordering.{Ordering}
-use Rattle.std.specs.declared.cmp.Ordering.TheVariants.{Less, Equal, Greater}
-use Rattle.path_text.specs.Total.{path_cmp_total, path_cmp_same}
-use Rattle.path_text.specs.Order.{path_cmp, is_under, IsPreorder, UnderIsContiguous}
-use Rattle.path_text.specs.Path.{refusal}
-use Rattle.tree_cmp.specs.declared.items.Item.{Item}
-use Rattle.tree_cmp.specs.declared.rows.Two.{Two}
-use Rattle.tree_cmp.specs.declared.drafts.Draft.{Draft}
-use Rattle.std.proofs.lemmas.List.Elements.{All-from_recursion}
-use Rattle.tree_cmp.specs.Private.Items.{at, is_below_partial, draft_of, paths, AreDrafts}
-use Rattle.tree_cmp.specs.Private.Steps.{Behind, under_some, BehindSome, is_partial_item, shown_from, is_row, From, Heads, order_by, path_of, Ascend}
-use Rattle.tree_cmp.specs.Private.Steps.{Ready, Takes, BeforeSome, hidden_after, row_after}
 use Rattle.tree_cmp.proofs.Under.{none_later}
-use Rattle.path_text.proofs.Under.{one_way, irreflexive}
-use Rattle.outside.proofs.Saved.{at_itself}
 
 pub same : (x y : List ℕ) → pointwise eqb x y ≡ true → x ≡ y
 same x y e = (bytes_decides x y).0 e

@@ -1,9 +1,5 @@
 -- What lies under a path stands together, right behind it.
-use Rattle.std.proofs.Common.{◌≡◌, false, List, ℕ, ◌∙◌, sym, None}
-use Rattle.std.specs.declared.cmp.Ordering.TheVariants.{Less}
-use Rattle.std.proofs.lemmas.Bool.{false≢true, false_from_ne_true}
-use Rattle.path_text.specs.Order.{path_cmp, is_under, UnderIsContiguous}
-use Rattle.path_text.specs.Path.{refusal}
+use Rattle.tree_cmp.proofs.Prelude.{◌≡◌, false, List, ℕ, ◌∙◌, sym, None, Less, false≢true, false_from_ne_true, path_cmp, is_under, UnderIsContiguous, refusal}
 
 -- behind a path that is not under u, nothing is under u
 pub none_later : UnderIsContiguous → (u x z : List ℕ) → refusal u ≡ None → refusal x ≡ None → path_cmp u x ≡ Less → is_under x u ≡ false

@@ -1,19 +1,7 @@
 -- Pairs that are due are apart, and each target stands in the destination, or is it.
-use Rattle.std.proofs.Common.{◌≡◌, ℕ, Bool, true, false, ◌||◌, List, [], ◌∷◌, ◌++◌, map}
-use Rattle.std.proofs.Common.{get_or, None, refl, ap, ◌∙◌, sym, subst, cond, arith}
-use Rattle.std.specs.List.{All, list_any}
-use Rattle.std.specs.Cmp.Lexicographic.{bytes_decides}
-use Rattle.std.proofs.lemmas.Bool.{false≢true, or_parts}
-use Rattle.std.proofs.lemmas.List.{get_or-map, length-map}
-use Rattle.std.proofs.lemmas.List.Elements.{All-map}
-use Rattle.std.proofs.lemmas.List.Folds.{list_any_at}
-use Rattle.path_text.specs.Order.{is_within}
-use Rattle.path_text.specs.Path.{refusal, joined, base_of, parent_of}
-use Rattle.path_text.proofs.Parents.{base_bare, parent_joined}
-use Rattle.path_text.proofs.Within.{within_root}
-use Rattle.outside.specs.Tree.{is_root}
-use Rattle.tree_copy.specs.declared.pairs.Pair.{Pair}
-use Rattle.tree_copy.specs.Placing.{overlap, target_in, PlacedAreApart}
+use Rattle.tree_copy.proofs.Prelude.{◌≡◌, ℕ, Bool, true, false, ◌||◌, List, [], ◌∷◌, ◌++◌, map, get_or, None, refl, ap, ◌∙◌, sym, subst, cond, arith, All}
+use Rattle.tree_copy.proofs.Prelude.{list_any, bytes_decides, false≢true, or_parts, get_or-map, length-map, All-map, list_any_at, is_within, refusal, joined}
+use Rattle.tree_copy.proofs.Prelude.{base_of, parent_of, base_bare, parent_joined, within_root, is_root, Pair, overlap, target_in, PlacedAreApart}
 use Rattle.tree_copy.proofs.Due.{are_due, targets_in, sources_in}
 use Rattle.tree_copy.proofs.Overlaps.{meets, target, overlap_append}
 

@@ -1,25 +1,12 @@
 -- The fate that each entry comes to by that of its item.
-use Rattle.std.proofs.Common.{◌≡◌, ◌≢◌, inl, inr, ℕ, zero, suc, ◌<◌, ◌≤◌, Bool, true, false, not, cond, ◌||◌, ◌&&◌, List, [], ◌∷◌, map, length}
-use Rattle.std.proofs.Common.{Option, Some, None, refl, ap, ◌∙◌, sym, arith, nat_eq, nat_lt, slice_get}
-use Rattle.std.proofs.lemmas.Bool.{false≢true, or_parts, or_left, or_right}
-use Rattle.std.proofs.lemmas.Bool.Decides.{nat_tests}
-use Rattle.std.proofs.lemmas.List.Elements.{All-from_recursion}
-use Rattle.std.specs.List.{All, AllByRecursion, filter, list_any, zip}
-use Rattle.std.specs.Cmp.Lexicographic.{pointwise, bytes_decides}
-use Rattle.path_text.specs.Path.{parent_of}
-use Rattle.entry_pages.specs.declared.entries.Entry.{Entry}
-use Rattle.flat_list.specs.Spelling.{paths}
-use Rattle.level_work.specs.Levels.{ParentsFail}
-use Rattle.level_work.specs.declared.items.Item.{Item}
-use Rattle.level_work.specs.declared.items.Fate.{Fate}
+use Rattle.tree_copy.proofs.Prelude.{◌≡◌, ◌≢◌, inl, inr, ℕ, zero, suc, ◌<◌, ◌≤◌, Bool, true, false, not, cond, ◌||◌, ◌&&◌, List, [], ◌∷◌, map, length, Option}
+use Rattle.tree_copy.proofs.Prelude.{Some, None, refl, ap, ◌∙◌, sym, arith, nat_eq, nat_lt, slice_get, false≢true, or_parts, or_left, or_right, nat_tests}
+use Rattle.tree_copy.proofs.Prelude.{All-from_recursion, All, AllByRecursion, filter, list_any, zip, pointwise, bytes_decides, parent_of, Entry, paths}
+use Rattle.tree_copy.proofs.Prelude.{ParentsFail, Item, Fate, Pair, is_done, IsEarly, early, is_tried, is_untold, parent_failed, target_of, any_odd, fates_of}
+use Rattle.tree_copy.proofs.Prelude.{has_room, is_odd, is_other, item_of, settled, settled_by, same_some}
 use Rattle.level_work.specs.declared.items.Fate.TheVariants as fate
 use Rattle.level_work.specs.declared.items.Order.TheVariants as order
-use Rattle.tree_copy.specs.declared.pairs.Pair.{Pair}
-use Rattle.level_work.specs.Counts.{is_done}
-use Rattle.tree_copy.specs.Copying.{IsEarly, early, is_tried, is_untold, parent_failed, target_of}
-use Rattle.tree_copy.specs.PrivateSettling.{any_odd, fates_of, has_room, is_odd, is_other, item_of, settled, settled_by}
 use Rattle.tree_copy.proofs.Fits.{no_room_of, other_path, room_of}
-use Rattle.level_work.proofs.Working.{same_some}
 
 -- the items by marks that say which entries have one
 abbrev pub items_by : List Pair → List Bool → List Entry → List Item

@@ -1,24 +1,11 @@
 -- The act of a copy: what its steps come to at and under the path, and what it does by the entry's kind.
-use Rattle.std.proofs.Common.{◌≡◌, ◌⊎◌, inl, inr, ℕ, Bool, true, false, List, [], Option, Some, None, IfSome, refl, ap, ◌∙◌, sym, subst}
-use Rattle.std.proofs.Common.{is_some}
-use Rattle.std.specs.Prelude.{Result, Ok, Err, IfOk}
-use Rattle.std.proofs.lemmas.Bool.{false≢true}
-use Rattle.std.specs.FinMap.{get}
-use Rattle.path_text.specs.declared.errors.OutOfMemory.{OutOfMemory}
-use Rattle.outside.specs.Tree.{Files, Node, is_dir, is_file}
-use Rattle.outside.specs.Writes.{SameBut, new_file, new_link}
+use Rattle.tree_copy.proofs.Prelude.{◌≡◌, ◌⊎◌, inl, inr, ℕ, Bool, true, false, List, [], Option, Some, None, IfSome, refl, ap, ◌∙◌, sym, subst, is_some, Result}
+use Rattle.tree_copy.proofs.Prelude.{Ok, Err, IfOk, false≢true, get, OutOfMemory, Files, Node, is_dir, is_file, SameBut, new_file, new_link, Stat, Entry}
+use Rattle.tree_copy.proofs.Prelude.{size_by, IsDone, at_and_under, Fate, is_done, ByReader, Filled, IsDirMade, IsFilled, IsPlaced, Placed, Spared, CopyKind}
+use Rattle.tree_copy.proofs.Prelude.{CopyLink, CopyOne, CopyTold, Differ, LinkBy, MakeDir, MakeFile, is_link, get_here}
 use Rattle.outside.specs.declared.trees.Kind.TheVariants as kind
-use Rattle.outside.specs.declared.trees.Stat.{Stat}
-use Rattle.entry_pages.specs.declared.entries.Entry.{Entry}
-use Rattle.entry_pages.specs.Entries.{size_by}
-use Rattle.level_work.specs.Acts.{IsDone, at_and_under}
-use Rattle.level_work.specs.declared.items.Fate.{Fate}
 use Rattle.level_work.specs.declared.items.Fate.TheVariants as fate
-use Rattle.level_work.specs.Counts.{is_done}
-use Rattle.tree_copy.specs.PrivateActs.{ByReader, Filled, IsDirMade, IsFilled, IsPlaced, Placed, Spared}
-use Rattle.tree_copy.specs.PrivateDeeds.{CopyKind, CopyLink, CopyOne, CopyTold, Differ, LinkBy, MakeDir, MakeFile, is_link}
 use Rattle.tree_copy.proofs.Puts.{mapped}
-use Rattle.level_work.proofs.Frames.{get_here}
 
 pub done_is : (f : Fate) → is_done f ≡ true → f ≡ fate.Done
 done_is fate.Done e = refl

@@ -1,40 +1,19 @@
 -- Work from the top down by copiers copies: each entry has the fate that is due, and its target what that fate says.
-use Rattle.std.proofs.Common.{◌≡◌, ◌≢◌, ◌⊎◌, inl, inr, ℕ, ◌<◌, Bool, true, false, not, cond, ◌&&◌, List, [], ◌∷◌, length}
-use Rattle.std.proofs.Common.{take, Option, Some, None}
-use Rattle.std.proofs.Common.{IfSome, refl, ap, ◌∙◌, sym, subst, arith, is_some}
-use Rattle.std.specs.Prelude.{is_none}
-use Rattle.std.proofs.lemmas.Bool.{false≢true}
-use Rattle.std.proofs.lemmas.List.{take_all}
-use Rattle.std.proofs.lemmas.List.Elements.{All-from_recursion, recursion_from_All}
-use Rattle.std.specs.FinMap.{get, get-insert, get-remove}
-use Rattle.std.specs.List.{AllByRecursion, zip}
-use Rattle.std.specs.Option.{option_map}
-use Rattle.path_text.specs.Total.{path_cmp_total, path_cmp_ties}
-use Rattle.outside.specs.Tree.{Files, Node, Body, dir, file, link, other, is_dir, is_dir_body, is_file, is_file_body, kind_of, content, link_at}
-use Rattle.outside.specs.Tree.{stat_of, text_of}
-use Rattle.outside.specs.Writes.{empty_dir, new_file, new_link}
-use Rattle.outside.specs.declared.trees.Kind.{Kind}
+use Rattle.tree_copy.proofs.Prelude.{◌≡◌, ◌≢◌, ◌⊎◌, inl, inr, ℕ, ◌<◌, Bool, true, false, not, cond, ◌&&◌, List, [], ◌∷◌, length, take, Option, Some, None}
+use Rattle.tree_copy.proofs.Prelude.{IfSome, refl, ap, ◌∙◌, sym, subst, arith, is_some, is_none, false≢true, take_all, All-from_recursion, recursion_from_All}
+use Rattle.tree_copy.proofs.Prelude.{get, get-insert, get-remove, AllByRecursion, zip, option_map, path_cmp_total, path_cmp_ties, Files, Node, Body, dir, file}
+use Rattle.tree_copy.proofs.Prelude.{link, other, is_dir, is_dir_body, is_file, is_file_body, content, link_at, stat_of, text_of, empty_dir, new_file, new_link}
+use Rattle.tree_copy.proofs.Prelude.{Kind, Stat, Entry, is_kind, is_of, size_by, at_and_under, Acted, SameButItems, found, is_item, left, with_at, Item, Fate}
+use Rattle.tree_copy.proofs.Prelude.{Pair, Copied, FitsTree, IsCopied, IsCopyOf, IsLeft, SameButTargets, clashes, due, early, is_untold, may_fail, or_else}
+use Rattle.tree_copy.proofs.Prelude.{target_of, treated, CopyKind, CopyOne, CopyTold, Differ, LeaveLink, LinkBy, MakeDir, MakeFile, MakeLink, PassOver, is_link}
+use Rattle.tree_copy.proofs.Prelude.{is_other, item_of, items_of, settled, settled_by, get_here, at_itself, same_some}
+use Rattle.outside.specs.Tree.{kind_of}
 use Rattle.outside.specs.declared.trees.Kind.TheVariants as kind
-use Rattle.outside.specs.declared.trees.Stat.{Stat}
-use Rattle.entry_pages.specs.declared.entries.Entry.{Entry}
-use Rattle.entry_pages.specs.Entries.{is_kind, is_of, size_by}
-use Rattle.level_work.specs.Acts.{at_and_under}
-use Rattle.level_work.specs.Levels.{Acted, SameButItems, found, is_item, left, with_at}
-use Rattle.level_work.specs.declared.items.Item.{Item}
-use Rattle.level_work.specs.declared.items.Fate.{Fate}
 use Rattle.level_work.specs.declared.items.Fate.TheVariants as fate
 use Rattle.level_work.specs.declared.items.Order.TheVariants as order
-use Rattle.tree_copy.specs.declared.pairs.Pair.{Pair}
-use Rattle.tree_copy.specs.Copying.{Copied, FitsTree, IsCopied, IsCopyOf, IsLeft, SameButTargets, clashes, due, early, is_untold, may_fail}
-use Rattle.tree_copy.specs.Copying.{or_else, target_of, treated}
-use Rattle.tree_copy.specs.PrivateDeeds.{CopyKind, CopyOne, CopyTold, Differ, LeaveLink, LinkBy, MakeDir, MakeFile, MakeLink, PassOver, is_link}
-use Rattle.tree_copy.specs.PrivateSettling.{is_other, item_of, items_of, settled, settled_by}
 use Rattle.tree_copy.proofs.Comes.{Comes, Row, long, skipped_by, tried, under}
 use Rattle.tree_copy.proofs.Fits.{far_no_item, no_item, no_room_of}
-use Rattle.level_work.proofs.Frames.{get_here}
-use Rattle.outside.proofs.Saved.{at_itself}
 use Rattle.tree_copy.proofs.Puts.{put_here}
-use Rattle.level_work.proofs.Working.{same_some}
 
 -- what an item finds and leaves at its path
 

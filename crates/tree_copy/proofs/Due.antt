@@ -1,16 +1,10 @@
 -- What is due, once it is known what is a directory.
-use Rattle.std.proofs.Common.{◌≡◌, ℕ, ◌≤◌, Bool, true, false, ◌&&◌, ◌||◌, List, [], ◌∷◌, ◌++◌, ◌+◌, ◌<◌, length, map, take, get_or, Option, Some}
-use Rattle.std.proofs.Common.{Result, Ok, Err, IfOk, refl, ap, ◌∙◌, sym, subst, cond, arith}
-use Rattle.std.specs.Prelude.{IfErr, IfSome, MatchOption, nat_le, ◌==◌}
-use Rattle.std.specs.List.{All, list_all}
-use Rattle.std.proofs.lemmas.Bool.Decides.{nat_tests}
-use Rattle.std.proofs.lemmas.List.{map_more}
-use Rattle.std.proofs.lemmas.List.Elements.{All-head, All-tail, All-more}
-use Rattle.tree_copy.specs.declared.pairs.Pair.{Pair}
-use Rattle.tree_copy.specs.declared.pairs.PlaceError.{PlaceError}
+use Rattle.tree_copy.proofs.Prelude.{◌≡◌, ℕ, ◌≤◌, Bool, true, false, ◌&&◌, ◌||◌, List, [], ◌∷◌, ◌++◌, ◌+◌, ◌<◌, length, map, take, get_or, Option, Some, refl}
+use Rattle.tree_copy.proofs.Prelude.{ap, ◌∙◌, sym, subst, cond, arith, IfErr, MatchOption, nat_le, ◌==◌, All, list_all, nat_tests, map_more, All-head, All-tail}
+use Rattle.tree_copy.proofs.Prelude.{All-more, Pair, PlaceError, IsDue, overlap, target_in, has_targets, pairs_in, placed}
+use Rattle.std.proofs.Common.{Result, Ok, Err, IfOk}
+use Rattle.std.specs.Prelude.{IfSome}
 use Rattle.tree_copy.specs.declared.pairs.PlaceError.TheVariants as place
-use Rattle.tree_copy.specs.Looking.{IsDue}
-use Rattle.tree_copy.specs.Placing.{overlap, target_in, has_targets, pairs_in, placed}
 use Rattle.tree_copy.proofs.Overlaps.{target}
 
 -- what is due for a list of pairs, for any kind of list

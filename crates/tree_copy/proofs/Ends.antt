@@ -1,25 +1,10 @@
 -- Where pairs send paths: no two paths go to one target, and a target is under another one only where its path is under the other's.
-use Rattle.std.proofs.Common.{◌≡◌, ◌⊎◌, ⊎_elim, ℕ, zero, suc, Bool, true, false, ◌||◌, List, [], ◌∷◌, ◌++◌, map, length, drop}
-use Rattle.std.proofs.Common.{Some, None, refl, ap, ◌∙◌, sym, subst, arith, cond, slice_get, append_assoc, length-append}
-use Rattle.std.proofs.lemmas.Bool.{false≢true, or_parts, or_left, or_right, or_from}
-use Rattle.std.proofs.lemmas.List.{append_cancel_left}
-use Rattle.std.proofs.lemmas.List.Folds.{list_any-append}
-use Rattle.std.proofs.lemmas.List.Elements.{recursion_from_All}
-use Rattle.std.specs.List.{All, AllByRecursion, list_any}
-use Rattle.std.specs.Cmp.Lexicographic.{bytes_decides}
-use Rattle.path_text.specs.Graft.{below_of, grafted}
-use Rattle.path_text.specs.Order.{front, is_under, is_within}
-use Rattle.path_text.specs.Path.{refusal}
-use Rattle.path_text.proofs.Moved.{below_undoes_graft}
-use Rattle.path_text.proofs.Parts.{below_made, front_longer, front_other, graft_undoes_below, grafted_names}
-use Rattle.path_text.proofs.Preorder.{front-joined, some_front}
-use Rattle.path_text.proofs.Under.{is_under_by, names_under}
-use Rattle.path_text.proofs.Within.{same_or_under, some_bytes, tops_are_nested, under_longer, within_root, within_up}
-use Rattle.outside.specs.Tree.{is_root}
-use Rattle.tree_copy.specs.declared.pairs.Pair.{Pair}
-use Rattle.tree_copy.specs.Copying.{ends_of, target_of}
-use Rattle.tree_copy.specs.Placing.{IsPair, overlap}
-use Rattle.level_work.proofs.Working.{same_some}
+use Rattle.tree_copy.proofs.Prelude.{◌≡◌, ◌⊎◌, ⊎_elim, ℕ, zero, suc, Bool, true, false, ◌||◌, List, [], ◌∷◌, ◌++◌, map, length, drop, Some, None, refl, ap, ◌∙◌}
+use Rattle.tree_copy.proofs.Prelude.{sym, subst, arith, cond, slice_get, append_assoc, length-append, false≢true, or_parts, or_left, or_right, or_from}
+use Rattle.tree_copy.proofs.Prelude.{append_cancel_left, list_any-append, recursion_from_All, All, AllByRecursion, list_any, bytes_decides, below_of, grafted}
+use Rattle.tree_copy.proofs.Prelude.{front, is_under, is_within, refusal, below_undoes_graft, below_made, front_longer, front_other, graft_undoes_below}
+use Rattle.tree_copy.proofs.Prelude.{grafted_names, front-joined, some_front, is_under_by, names_under, same_or_under, some_bytes, tops_are_nested}
+use Rattle.tree_copy.proofs.Prelude.{under_longer, within_root, within_up, is_root, Pair, ends_of, target_of, IsPair, overlap, same_some}
 
 -- tests
 

@@ -1,27 +1,11 @@
 -- Where nothing stands against the copy of any entry, and none failed, every entry comes to `Done`.
-use Rattle.std.proofs.Common.{◌≡◌, ◌⊎◌, inl, inr, ⊎_elim, ℕ, zero, suc, ◌+◌, ◌-◌, ◌<◌, ◌≤◌, true, false, not, cond, ◌||◌, ◌&&◌, List, []}
-use Rattle.std.proofs.Common.{◌∷◌, ◌++◌, length, map, take, drop, Some, None, refl, ap, ◌∙◌, sym, subst, arith, nat_eq}
-use Rattle.std.proofs.Common.{length-append, length-take}
-use Rattle.std.proofs.lemmas.Bool.{false≢true}
-use Rattle.std.proofs.lemmas.List.Elements.{All-from_recursion, recursion_from_All}
-use Rattle.std.specs.Prelude.{◌==◌}
-use Rattle.std.specs.List.{AllByRecursion, zip, before_last, suffix_len}
-use Rattle.std.specs.Cmp.Lexicographic.{pointwise, bytes_decides}
-use Rattle.path_text.specs.Graft.{grafted, below_of}
-use Rattle.path_text.specs.Order.{is_within}
-use Rattle.path_text.specs.Path.{is_slash, parent_of, joined}
-use Rattle.path_text.proofs.Parents.{parent_some}
-use Rattle.outside.specs.Tree.{Files}
-use Rattle.outside.proofs.Names.{all_weaker}
-use Rattle.entry_pages.specs.declared.entries.Entry.{Entry}
-use Rattle.flat_list.specs.Spelling.{paths}
-use Rattle.level_work.specs.Counts.{is_failed, is_done}
-use Rattle.level_work.specs.declared.items.Fate.{Fate}
+use Rattle.tree_copy.proofs.Prelude.{◌≡◌, ◌⊎◌, inl, inr, ⊎_elim, ℕ, zero, suc, ◌+◌, ◌-◌, ◌<◌, ◌≤◌, true, false, not, cond, ◌||◌, ◌&&◌, List, [], ◌∷◌, ◌++◌}
+use Rattle.tree_copy.proofs.Prelude.{length, map, take, drop, Some, None, refl, ap, ◌∙◌, sym, subst, arith, nat_eq, length-append, length-take, false≢true}
+use Rattle.tree_copy.proofs.Prelude.{All-from_recursion, recursion_from_All, ◌==◌, AllByRecursion, zip, before_last, suffix_len, pointwise, bytes_decides}
+use Rattle.tree_copy.proofs.Prelude.{grafted, below_of, is_within, is_slash, parent_of, joined, parent_some, Files, all_weaker, Entry, paths, is_failed}
+use Rattle.tree_copy.proofs.Prelude.{is_done, Fate, unfailed, IsCopied, due, is_untold, or_else, parent_failed, target_of, treated, FineEntriesAreCopied}
+use Rattle.tree_copy.proofs.Prelude.{IsFineEntry, Pair}
 use Rattle.level_work.specs.declared.items.Fate.TheVariants as fate
-use Rattle.level_work.proofs.Unfailed.{unfailed}
-use Rattle.tree_copy.specs.Copying.{IsCopied, due, is_untold, or_else, parent_failed, target_of, treated}
-use Rattle.tree_copy.specs.Laws.{FineEntriesAreCopied, IsFineEntry}
-use Rattle.tree_copy.specs.declared.pairs.Pair.{Pair}
 use Rattle.tree_copy.proofs.Comes.{within}
 
 abbrev Row : Type 0

@@ -1,15 +1,9 @@
 -- A file that is filled piece by piece.
-use Rattle.std.proofs.Common.{◌≡◌, ℕ, zero, suc, ◌+◌, List, [], ◌∷◌, ◌++◌, length, take, drop, Option, Some, None, IfSome}
-use Rattle.std.proofs.Common.{refl, ap, ◌∙◌, sym, subst, arith, is_some, length-append}
-use Rattle.std.proofs.lemmas.Bool.{false≢true}
-use Rattle.std.proofs.lemmas.List.{append-nil, length-take-le, take_all, drop_all}
-use Rattle.std.specs.FinMap.{get}
-use Rattle.outside.specs.Tree.{Files, file, content, Reads}
-use Rattle.outside.specs.Writes.{SameBut, new_file, written, spliced, time_of, write_refusal}
-use Rattle.tree_copy.specs.PrivateActs.{HasFile}
-use Rattle.tree_copy.specs.PrivateDeeds.{Holds}
+use Rattle.tree_copy.proofs.Prelude.{◌≡◌, ℕ, zero, suc, ◌+◌, List, [], ◌∷◌, ◌++◌, length, take, drop, Option, Some, None, IfSome, refl, ap, ◌∙◌, sym, subst}
+use Rattle.tree_copy.proofs.Prelude.{arith, is_some, length-append, false≢true, length-take-le, take_all, drop_all, get, Files, file, content, Reads, SameBut}
+use Rattle.tree_copy.proofs.Prelude.{new_file, written, spliced, time_of, write_refusal, HasFile, Holds, both_told}
+use Rattle.std.proofs.lemmas.List.{append-nil}
 use Rattle.tree_copy.proofs.Puts.{put_here, put_others, answered}
-use Rattle.level_work.proofs.Working.{both_told}
 
 take_none : (n : ℕ) → take {A = ℕ} n [] ≡ []
 take_none zero = refl

@@ -1,40 +1,18 @@
 -- The items of a copy are fit for work from the top down.
-use Rattle.std.proofs.Common.{◌≡◌, inl, inr, ℕ, zero, suc, ◌<◌, ◌≤◌, Bool, true, false, cond, ◌||◌, List, [], ◌∷◌, map, length, Option, Some, None}
-use Rattle.std.proofs.Common.{IfSome, refl, ap, ◌∙◌, sym, subst, arith, nat_eq, is_some, slice_get}
-use Rattle.std.proofs.lemmas.Bool.{false≢true, or_parts, or_from}
-use Rattle.std.proofs.lemmas.Bool.Decides.{nat_tests}
-use Rattle.std.specs.Prelude.{nat_le}
-use Rattle.std.specs.FinMap.{get}
-use Rattle.std.specs.List.{All, AllByRecursion, filter, list_any}
+use Rattle.tree_copy.proofs.Prelude.{◌≡◌, inl, inr, ℕ, zero, suc, ◌<◌, ◌≤◌, Bool, true, false, cond, ◌||◌, List, [], ◌∷◌, map, length, Option, Some, None}
+use Rattle.tree_copy.proofs.Prelude.{IfSome, refl, ap, ◌∙◌, sym, subst, arith, nat_eq, is_some, slice_get, false≢true, or_parts, or_from, nat_tests, nat_le}
+use Rattle.tree_copy.proofs.Prelude.{get, All, AllByRecursion, filter, list_any, option_map, pointwise, bytes_decides, Less, path_cmp, is_under, refusal}
+use Rattle.tree_copy.proofs.Prelude.{parent_of, one_way, UnderDirectories, Files, Node, Body, dir, file, link, other, IsTree, is_dir, is_root, stat_of}
+use Rattle.tree_copy.proofs.Prelude.{empty_dir, Stat, parent_under, under_longer, Entry, paths, MakesDirs, AreItems, StandIn, is_item, Item, Pair, CanCopy}
+use Rattle.tree_copy.proofs.Prelude.{FitsTree, is_target, target_of, treated, CopyKind, CopyOne, CopyTold, MakeDir, IsPair, has_room, item_of, items_of}
+use Rattle.tree_copy.proofs.Prelude.{placed_of, same_some}
+use Rattle.outside.specs.Tree.{kind_of}
 use Rattle.std.specs.List.Sorted.{IsStrictlySortedBy}
-use Rattle.std.specs.Option.{option_map}
-use Rattle.std.specs.Cmp.Lexicographic.{pointwise, bytes_decides}
-use Rattle.std.specs.declared.cmp.Ordering.TheVariants.{Less}
-use Rattle.path_text.specs.Order.{path_cmp, is_under}
-use Rattle.path_text.specs.Path.{refusal, parent_of}
-use Rattle.path_text.proofs.Under.{one_way}
-use Rattle.outside.specs.Parts.{UnderDirectories}
-use Rattle.outside.specs.Tree.{Files, Node, Body, dir, file, link, other, IsTree, is_dir, is_root, kind_of, stat_of}
-use Rattle.outside.specs.Writes.{empty_dir}
 use Rattle.outside.specs.declared.trees.Kind.TheVariants as kind
-use Rattle.outside.specs.declared.trees.Stat.{Stat}
-use Rattle.path_text.proofs.Parents.{parent_under}
-use Rattle.path_text.proofs.Within.{under_longer}
-use Rattle.entry_pages.specs.declared.entries.Entry.{Entry}
-use Rattle.flat_list.specs.Spelling.{paths}
-use Rattle.level_work.specs.Acts.{MakesDirs}
-use Rattle.level_work.specs.Levels.{AreItems, StandIn, is_item}
-use Rattle.level_work.specs.declared.items.Item.{Item}
 use Rattle.level_work.specs.declared.items.Fate.TheVariants as fate
 use Rattle.level_work.specs.declared.items.Order.TheVariants as order
-use Rattle.tree_copy.specs.declared.pairs.Pair.{Pair}
-use Rattle.tree_copy.specs.Copying.{CanCopy, FitsTree, is_target, target_of, treated}
-use Rattle.tree_copy.specs.PrivateDeeds.{CopyKind, CopyOne, CopyTold, MakeDir}
-use Rattle.tree_copy.specs.Placing.{IsPair}
-use Rattle.tree_copy.specs.PrivateSettling.{has_room, item_of, items_of, placed_of}
 use Rattle.tree_copy.proofs.Ends.{Fine, Goes, all_at, goes, no_root, one_path, under_kept}
 use Rattle.tree_copy.proofs.Puts.{put_here}
-use Rattle.level_work.proofs.Working.{same_some}
 
 -- what is known of the entries and of the pairs
 pub record Known (list : List Entry) (pairs : List Pair) : Type 0 where

@@ -1,18 +1,8 @@
 -- The items of entries, one by one.
-use Rattle.std.proofs.Common.{◌≡◌, ℕ, Bool, true, false, cond, List, [], ◌∷◌, map, length, Option, Some, None, refl, ap, ◌∙◌, sym, subst}
-use Rattle.std.proofs.Common.{is_some, not, slice_get, get_or, ◌<◌}
-use Rattle.std.proofs.lemmas.Option.{slice_get_read}
-use Rattle.std.specs.Prelude.{nat_le, IfSome}
-use Rattle.std.specs.List.{All, filter, list_any}
-use Rattle.path_text.specs.Graft.{below_of, grafted}
-use Rattle.path_text.specs.Order.{is_within}
-use Rattle.entry_pages.specs.declared.entries.Entry.{Entry}
-use Rattle.level_work.specs.declared.items.Item.{Item}
-use Rattle.tree_copy.specs.declared.pairs.Pair.{Pair}
-use Rattle.tree_copy.specs.Copying.{ends_of, target_of, treated}
-use Rattle.tree_copy.specs.Placing.{overlap}
-use Rattle.tree_copy.specs.Placing.{IsPair}
-use Rattle.tree_copy.specs.PrivateSettling.{has_room, item_of, items_of}
+use Rattle.tree_copy.proofs.Prelude.{◌≡◌, ℕ, Bool, true, false, cond, List, [], ◌∷◌, map, length, Option, Some, None, refl, ap, ◌∙◌, sym, subst, is_some, not}
+use Rattle.tree_copy.proofs.Prelude.{slice_get, get_or, ◌<◌, slice_get_read, nat_le, All, filter, list_any, below_of, grafted, is_within, Entry, Item, Pair}
+use Rattle.tree_copy.proofs.Prelude.{ends_of, target_of, treated, overlap, IsPair, has_room, item_of, items_of}
+use Rattle.std.specs.Prelude.{IfSome}
 use Rattle.tree_copy.proofs.Ends.{Fine, all_at, target_by}
 
 -- the item of an entry that has one

@@ -1,20 +1,7 @@
 -- No target is `/`.
-use Rattle.std.proofs.Common.{◌≡◌, ℕ, ◌<◌, Bool, true, false, cond, ◌||◌, List, [], ◌∷◌, ◌++◌, map, length, get_or, None, refl, ap, ◌∙◌, sym, subst, arith}
-use Rattle.std.proofs.lemmas.Bool.{false≢true, or_parts}
-use Rattle.std.proofs.lemmas.List.{get_or-map, length-map}
-use Rattle.std.proofs.lemmas.List.Elements.{All-map}
-use Rattle.std.proofs.lemmas.List.Folds.{list_any_at}
-use Rattle.std.proofs.lemmas.Option.{slice_get-get_or}
-use Rattle.std.specs.Prelude.{◌==◌}
-use Rattle.std.specs.List.{All, list_any}
-use Rattle.path_text.proofs.Joined.{first_slash}
-use Rattle.path_text.proofs.Within.{within_root}
-use Rattle.path_text.specs.Order.{is_within}
-use Rattle.path_text.specs.Path.{refusal, joined, base_of}
-use Rattle.outside.specs.Tree.{is_root}
-use Rattle.tree_copy.specs.Laws.{TargetsAreLong}
-use Rattle.tree_copy.specs.Placing.{overlap, target_in}
-use Rattle.tree_copy.specs.declared.pairs.Pair.{Pair}
+use Rattle.tree_copy.proofs.Prelude.{◌≡◌, ℕ, ◌<◌, Bool, true, false, cond, ◌||◌, List, [], ◌∷◌, ◌++◌, map, length, get_or, None, refl, ap, ◌∙◌, sym, subst}
+use Rattle.tree_copy.proofs.Prelude.{arith, false≢true, or_parts, get_or-map, length-map, All-map, list_any_at, slice_get-get_or, ◌==◌, All, list_any}
+use Rattle.tree_copy.proofs.Prelude.{first_slash, within_root, is_within, refusal, joined, base_of, is_root, TargetsAreLong, overlap, target_in, Pair}
 use Rattle.tree_copy.proofs.Apart.{across}
 use Rattle.tree_copy.proofs.Due.{are_due, targets_in}
 use Rattle.tree_copy.proofs.Ends.{own_apart}

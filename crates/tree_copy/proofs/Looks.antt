@@ -1,18 +1,10 @@
 -- What a look at a path that is taken means for the node that is to be made there.
-use Rattle.std.proofs.Common.{◌≡◌, inl, inr, ℕ, Bool, true, false, cond, List, Option, Some, None, refl, ap, ◌∙◌, is_some}
-use Rattle.std.specs.FinMap.{get}
-use Rattle.std.specs.Option.{option_map}
-use Rattle.outside.specs.Tree.{Files, Node, Body, dir, file, link, other, is_dir, is_dir_body, is_file_body, stat_of, text_of}
+use Rattle.tree_copy.proofs.Prelude.{◌≡◌, inl, inr, ℕ, Bool, true, false, cond, List, Option, Some, None, refl, ap, ◌∙◌, is_some, get, option_map, Files, Node}
+use Rattle.tree_copy.proofs.Prelude.{Body, dir, file, link, other, is_dir, is_dir_body, is_file_body, stat_of, text_of, Kind, is_kind, Fate, look_fate, Looked}
+use Rattle.tree_copy.proofs.Prelude.{is_old_of, kind_of, NewNode, File, Link}
 use Rattle.outside.specs.Tree as tree
-use Rattle.outside.specs.declared.trees.Kind.{Kind}
 use Rattle.outside.specs.declared.trees.Kind.TheVariants as kind
-use Rattle.entry_pages.specs.Entries.{is_kind}
-use Rattle.level_work.specs.declared.items.Fate.{Fate}
 use Rattle.level_work.specs.declared.items.Fate.TheVariants as fate
-use Rattle.tree_copy.specs.PrivateActs.{look_fate}
-use Rattle.tree_copy.specs.PrivateNodes.{Looked, is_old_of, kind_of}
-use Rattle.tree_copy.specs.declared.anew.NewNode.{NewNode}
-use Rattle.tree_copy.specs.declared.anew.NewNode.TheVariants.{File, Link}
 
 -- the fate, by what the reader sees
 pub data Sight (is_old : Option Node → Bool) (o : Option Node) (f : Fate) : Type 0 where

@@ -1,24 +1,11 @@
 -- A directory that is made or kept, seen at and under its path.
-use Rattle.std.proofs.Common.{◌≡◌, inl, inr, ℕ, Bool, true, false, cond, List, Option, Some, None, IfSome, refl, ap, ◌∙◌, sym, subst, is_some}
-use Rattle.std.specs.Prelude.{Ok}
-use Rattle.std.specs.FinMap.{get, insert, get-insert, same_map}
-use Rattle.std.specs.Ordering.{eq_by_cmp}
-use Rattle.std.specs.Cmp.Lexicographic.{bytes_decides}
-use Rattle.path_text.specs.Order.{path_cmp, is_within}
-use Rattle.path_text.specs.Total.{path_cmp_total, path_cmp_ties, path_cmp_same}
-use Rattle.outside.specs.Tree.{Files, Node, is_dir}
-use Rattle.outside.specs.Writes.{empty_dir}
+use Rattle.tree_copy.proofs.Prelude.{◌≡◌, inl, inr, ℕ, Bool, true, false, cond, List, Option, Some, None, IfSome, refl, ap, ◌∙◌, sym, subst, is_some, Ok, get}
+use Rattle.tree_copy.proofs.Prelude.{insert, get-insert, same_map, eq_by_cmp, bytes_decides, path_cmp, is_within, path_cmp_total, path_cmp_ties, path_cmp_same}
+use Rattle.tree_copy.proofs.Prelude.{Files, Node, is_dir, empty_dir, at_and_under, Fate, MakeDir, ByReader, IsDirMade, Looked, itself, get_at, get_here}
 use Rattle.outside.specs.declared.trees.Kind.TheVariants as kind
-use Rattle.level_work.specs.Acts.{at_and_under}
-use Rattle.level_work.specs.declared.items.Fate.{Fate}
 use Rattle.level_work.specs.declared.items.Fate.TheVariants as fate
-use Rattle.tree_copy.specs.PrivateDeeds.{MakeDir}
-use Rattle.tree_copy.specs.PrivateActs.{ByReader, IsDirMade}
-use Rattle.tree_copy.specs.PrivateNodes.{Looked}
 use Rattle.tree_copy.proofs.Looks.{Sight, dir_kind, failed, there, in_way, absent, sight}
-use Rattle.path_text.proofs.Within.{itself}
 use Rattle.tree_copy.proofs.Puts.{put_others}
-use Rattle.level_work.proofs.Frames.{get_at, get_here}
 
 same_inserted : (p : List ℕ) (n : Node) (files : Files) → at_and_under p (insert files p n) ≡ insert (at_and_under p files) p n
 same_inserted p n files = same_map path_cmp_total path_cmp_same _ _ (λ q.

@@ -1,20 +1,9 @@
 -- Paths of sources are no targets, and each has a target of its own.
-use Rattle.std.proofs.Common.{◌≡◌, ℕ, zero, suc, Bool, true, false, List, [], ◌∷◌, map, Some, None, refl, ◌∙◌, sym, subst, nat_eq, slice_get}
-use Rattle.std.proofs.Common.{is_some}
-use Rattle.std.proofs.lemmas.Bool.{false≢true, or_left, or_right, or_from}
-use Rattle.std.proofs.lemmas.List.Elements.{All-filter, recursion_from_All}
-use Rattle.std.specs.List.{AllByRecursion, list_any}
-use Rattle.std.specs.Cmp.Lexicographic.{pointwise, bytes_decides}
-use Rattle.path_text.specs.Order.{is_within}
-use Rattle.path_text.specs.Path.{refusal}
-use Rattle.entry_pages.specs.declared.entries.Entry.{Entry}
-use Rattle.tree_copy.specs.Copying.{ends_of, target_of, treated}
-use Rattle.tree_copy.specs.Laws.{TargetsAreApart, is_in_source}
-use Rattle.tree_copy.specs.Placing.{IsPair, overlap}
-use Rattle.tree_copy.specs.declared.pairs.Pair.{Pair}
+use Rattle.tree_copy.proofs.Prelude.{◌≡◌, ℕ, zero, suc, Bool, true, false, List, [], ◌∷◌, map, Some, None, refl, ◌∙◌, sym, subst, nat_eq, slice_get, is_some}
+use Rattle.tree_copy.proofs.Prelude.{false≢true, or_left, or_right, or_from, All-filter, recursion_from_All, AllByRecursion, list_any, pointwise, bytes_decides}
+use Rattle.tree_copy.proofs.Prelude.{is_within, refusal, Entry, ends_of, target_of, treated, TargetsAreApart, is_in_source, IsPair, overlap, Pair, same_some}
 use Rattle.tree_copy.proofs.Apart.{across}
 use Rattle.tree_copy.proofs.Ends.{Fine, all_at, goes, in_top, meets, met, one_over, one_path}
-use Rattle.level_work.proofs.Working.{same_some}
 
 abbrev sources_of : List Pair → List (List ℕ)
 sources_of pairs = map (λ pair. pair.source) pairs

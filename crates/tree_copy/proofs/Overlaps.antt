@@ -1,17 +1,7 @@
 -- Paths that overlap, of two lists together; and what `/` is.
-use Rattle.std.proofs.Common.{◌≡◌, ◌≢◌, ℕ, Bool, true, false, ◌||◌, List, [], ◌∷◌, ◌++◌, ◌-◌, ◌≤◌, get_or, take, drop, length, map, Option, Some}
-use Rattle.std.proofs.Common.{None, refl, ap, ◌∙◌, sym, cond, arith}
-use Rattle.std.specs.Prelude.{◌==◌}
-use Rattle.std.specs.List.{list_any}
-use Rattle.std.proofs.lemmas.Bool.Decides.{nat_tests}
-use Rattle.std.proofs.lemmas.List.{take_all}
-use Rattle.std.proofs.lemmas.List.Folds.{list_any-append}
-use Rattle.path_text.proofs.Within.{not_one}
-use Rattle.path_text.specs.Order.{is_within}
-use Rattle.path_text.specs.Path.{refusal}
-use Rattle.outside.specs.Tree.{is_root}
-use Rattle.tree_copy.specs.declared.pairs.Pair.{Pair}
-use Rattle.tree_copy.specs.Placing.{overlap}
+use Rattle.tree_copy.proofs.Prelude.{◌≡◌, ◌≢◌, ℕ, Bool, true, false, ◌||◌, List, [], ◌∷◌, ◌++◌, ◌-◌, ◌≤◌, get_or, take, drop, length, map, Option, Some, None}
+use Rattle.tree_copy.proofs.Prelude.{refl, ap, ◌∙◌, sym, cond, arith, ◌==◌, list_any, nat_tests, take_all, list_any-append, not_one, is_within, refusal}
+use Rattle.tree_copy.proofs.Prelude.{is_root, Pair, overlap}
 
 -- one of two paths is the other, or under it
 abbrev pub meets : List ℕ → List ℕ → Bool

@@ -1,20 +1,10 @@
 -- A node that is made at a path, in place of none or of an old one of its kind.
-use Rattle.std.proofs.Common.{◌≡◌, ◌≢◌, inl, inr, ℕ, Bool, true, false, cond, ◌||◌, List, Option, Some, None, IfSome, refl, ap, ◌∙◌, sym, subst, is_some}
-use Rattle.std.specs.Prelude.{Result, Ok, Err, IfOk, IsTrue}
-use Rattle.std.proofs.lemmas.Bool.{false≢true}
-use Rattle.std.specs.FinMap.{get, insert, remove}
-use Rattle.path_text.specs.Path.{parent_of}
-use Rattle.path_text.specs.declared.errors.OutOfMemory.{OutOfMemory}
-use Rattle.outside.specs.Tree.{Files, Node, is_dir}
-use Rattle.outside.specs.Writes.{Area, Answers, SameBut, is_top, make_refusal, remove_file_refusal}
-use Rattle.outside.specs.declared.plots.WriteError.{WriteError}
+use Rattle.tree_copy.proofs.Prelude.{◌≡◌, ◌≢◌, inl, inr, ℕ, Bool, true, false, cond, ◌||◌, List, Option, Some, None, IfSome, refl, ap, ◌∙◌, sym, subst, is_some}
+use Rattle.tree_copy.proofs.Prelude.{Result, Ok, Err, IfOk, IsTrue, false≢true, get, insert, remove, parent_of, OutOfMemory, Files, Node, is_dir, Area, Answers}
+use Rattle.tree_copy.proofs.Prelude.{SameBut, is_top, make_refusal, remove_file_refusal, WriteError, Fate, both_told, IsPlaced, IsReplaced, MadeAnew, Placed}
+use Rattle.tree_copy.proofs.Prelude.{TellsFate, Looked, is_old_of, kind_of, node_of, NewNode}
 use Rattle.outside.specs.declared.plots.WriteError.TheVariants as write
-use Rattle.level_work.specs.declared.items.Fate.{Fate}
 use Rattle.level_work.specs.declared.items.Fate.TheVariants as fate
-use Rattle.level_work.proofs.Working.{both_told}
-use Rattle.tree_copy.specs.PrivateActs.{IsPlaced, IsReplaced, MadeAnew, Placed, TellsFate}
-use Rattle.tree_copy.specs.PrivateNodes.{Looked, is_old_of, kind_of, node_of}
-use Rattle.tree_copy.specs.declared.anew.NewNode.{NewNode}
 use Rattle.tree_copy.proofs.Looks.{Sight, absent, failed, in_way, old_kind, sight, there}
 use Rattle.tree_copy.proofs.Makes.{told_all}
 use Rattle.tree_copy.proofs.Puts.{put_here, put_others, gone_here, gone_others, answered}

@@ -1,16 +1,8 @@
 -- A node that is put at a path or taken away, and what a call leaves that does so.
-use Rattle.std.proofs.Common.{◌≡◌, ℕ, Bool, true, false, cond, ◌||◌, List, Option, Some, None, IfSome, refl, ap, ◌∙◌, sym, subst, is_some}
-use Rattle.std.specs.Prelude.{Err}
-use Rattle.std.proofs.lemmas.Bool.{false≢true}
-use Rattle.std.specs.FinMap.{get, insert, remove, get-insert, get-remove}
-use Rattle.path_text.specs.Path.{parent_of}
-use Rattle.path_text.specs.Total.{path_cmp_total, path_cmp_ties}
-use Rattle.outside.specs.Tree.{Files, Node, is_dir}
-use Rattle.outside.specs.Writes.{Answers, Area, SameBut, is_top, make_refusal}
-use Rattle.outside.specs.declared.plots.WriteError.{WriteError}
+use Rattle.tree_copy.proofs.Prelude.{◌≡◌, ℕ, Bool, true, false, cond, ◌||◌, List, Option, Some, None, IfSome, refl, ap, ◌∙◌, sym, subst, is_some, Err}
+use Rattle.tree_copy.proofs.Prelude.{false≢true, get, insert, remove, get-insert, get-remove, parent_of, path_cmp_total, path_cmp_ties, Files, Node, is_dir}
+use Rattle.tree_copy.proofs.Prelude.{Answers, Area, SameBut, is_top, make_refusal, WriteError, is_taken, at_itself}
 use Rattle.outside.specs.declared.plots.WriteError.TheVariants as write
-use Rattle.tree_copy.specs.PrivateActs.{is_taken}
-use Rattle.outside.proofs.Saved.{at_itself}
 
 pub put_here : (p : List ℕ) (n : Node) (files : Files) → get (insert files p n) p ≡ Some n
 put_here p n files = get-insert path_cmp_total files p n p ∙ ap (λ b. cond b (Some n) (get files p)) (sym (path_cmp_ties p p) ∙ at_itself p)

@@ -1,20 +1,9 @@
 -- Actors whose readers look at one tree, and the counts of readers that are taken back.
-use Rattle.std.proofs.Common.{◌≡◌, ◌⊎◌, inl, inr, ℕ, zero, suc, ◌+◌, ◌-◌, ◌^◌, ◌<◌, ◌≤◌, Bool, true, false, List, [], ◌∷◌, map, length, Option, Some}
-use Rattle.std.proofs.Common.{None, IfSome, refl, ◌∙◌, sym, subst, arith, slice_get, min, nat_lt}
-use Rattle.std.proofs.lemmas.Bool.Decides.{nat_tests}
-use Rattle.std.proofs.lemmas.List.Elements.{recursion_from_All}
-use Rattle.std.proofs.lemmas.List.Sums.{sum-map, sum_by-cons}
-use Rattle.std.specs.List.{All, AllByRecursion, sum_by}
-use Rattle.outside.specs.Count.{RoseBy}
-use Rattle.outside.specs.Tree.{Files}
-use Rattle.level_work.specs.Acts.{AllShow, Alike, MakesDirs}
-use Rattle.level_work.specs.Counts.{BlamedAll, NoneAtEnd}
-use Rattle.level_work.specs.Levels.{Acted}
-use Rattle.level_work.specs.declared.items.Item.{Item}
-use Rattle.level_work.specs.declared.items.Fate.{Fate}
+use Rattle.tree_copy.proofs.Prelude.{◌≡◌, ◌⊎◌, inl, inr, ℕ, zero, suc, ◌+◌, ◌-◌, ◌^◌, ◌<◌, ◌≤◌, Bool, true, false, List, [], ◌∷◌, map, length, Option, Some}
+use Rattle.tree_copy.proofs.Prelude.{None, IfSome, refl, ◌∙◌, sym, subst, arith, slice_get, min, nat_lt, nat_tests, recursion_from_All, sum-map, sum_by-cons}
+use Rattle.tree_copy.proofs.Prelude.{All, AllByRecursion, sum_by, RoseBy, Files, AllShow, Alike, MakesDirs, BlamedAll, NoneAtEnd, Acted, Item, Fate, CopyOne}
+use Rattle.tree_copy.proofs.Prelude.{longer}
 use Rattle.level_work.specs.declared.items.Order.TheVariants as order
-use Rattle.tree_copy.specs.PrivateDeeds.{CopyOne}
-use Rattle.path_text.proofs.Preordered.{longer}
 
 -- all show one thing
 

@@ -1,36 +1,12 @@
 -- What a copy reports, from what its parts tell.
-use Rattle.std.proofs.Common.{◌≡◌, ◌∙◌, ℕ, ◌≤◌, Bool, true, false, cond, List, [], ◌∷◌, map, length, Option, Some, None, IfSome}
-use Rattle.std.proofs.Common.{refl, ap, sym, subst}
-use Rattle.std.proofs.Common.{arith, slice_get}
-use Rattle.std.proofs.lemmas.List.{length-map}
-use Rattle.std.proofs.lemmas.List.Sums.{length-filter, sum_by-cons}
-use Rattle.std.proofs.lemmas.Slice.Zip.{firsts-zip}
-use Rattle.std.specs.Prelude.{Result, Ok, Err, IfOk}
-use Rattle.std.specs.List.{All, AllByRecursion, count_by, sum_by, zip}
-use Rattle.path_text.specs.Path.{refusal, parent_of}
-use Rattle.outside.specs.Asked.{Asks, Writes}
-use Rattle.outside.specs.Count.{RoseBy}
-use Rattle.outside.specs.Parts.{IsTreeIn, UnderDirectories}
-use Rattle.outside.specs.Tree.{Files}
-use Rattle.outside.specs.Writes.{Area, nothing_lent}
-use Rattle.entry_pages.specs.declared.entries.Entry.{Entry}
-use Rattle.entry_pages.specs.Entries.{bytes_by}
-use Rattle.flat_list.specs.Spelling.{paths}
-use Rattle.level_work.specs.Acts.{MakesDirs}
-use Rattle.level_work.specs.Counts.{is_failed, is_done}
-use Rattle.level_work.specs.Levels.{Acted, AreItems, ParentsFail, SameButItems, StandIn}
-use Rattle.level_work.specs.declared.items.Item.{Item}
-use Rattle.level_work.specs.declared.items.Fate.{Fate}
+use Rattle.tree_copy.proofs.Prelude.{◌≡◌, ◌∙◌, ℕ, ◌≤◌, Bool, true, false, cond, List, [], ◌∷◌, map, length, Option, Some, None, IfSome, refl, ap, sym, subst}
+use Rattle.tree_copy.proofs.Prelude.{arith, slice_get, length-map, length-filter, sum_by-cons, firsts-zip, Result, Ok, Err, IfOk, All, AllByRecursion, count_by}
+use Rattle.tree_copy.proofs.Prelude.{sum_by, zip, refusal, parent_of, Asks, Writes, RoseBy, IsTreeIn, UnderDirectories, Files, Area, nothing_lent, Entry}
+use Rattle.tree_copy.proofs.Prelude.{bytes_by, paths, MakesDirs, is_failed, is_done, Acted, AreItems, ParentsFail, SameButItems, StandIn, Item, Fate, Pair}
+use Rattle.tree_copy.proofs.Prelude.{HaveCauses, AreEarly, CanCopy, Copied, FitsTree, SameButTargets, bytes_copied, treated, IsPair, AllMayCopy, CopyOne}
+use Rattle.tree_copy.proofs.Prelude.{any_odd, bytes_of, fates_of, fitting, has_room, is_other, items_of, placed_of, settled_by}
 use Rattle.level_work.specs.declared.items.Fate.TheVariants as fate
 use Rattle.level_work.specs.declared.items.Order.TheVariants as order
-use Rattle.tree_copy.specs.declared.pairs.Pair.{Pair}
-use Rattle.tree_copy.specs.Causes.{HaveCauses}
-use Rattle.tree_copy.specs.Copying.{AreEarly, CanCopy, Copied, FitsTree, SameButTargets, bytes_copied, treated}
-use Rattle.tree_copy.specs.Placing.{IsPair}
-use Rattle.tree_copy.specs.PrivateActs.{AllMayCopy}
-use Rattle.tree_copy.specs.PrivateDeeds.{CopyOne}
-use Rattle.tree_copy.specs.PrivateSettling.{any_odd, bytes_of, fates_of, fitting, has_room, is_other, items_of, placed_of}
-use Rattle.tree_copy.specs.PrivateSettling.{settled_by}
 use Rattle.tree_copy.proofs.Comes.{Comes, Row, all_come, are_early, are_marks, items_are, items_by, rows_by}
 use Rattle.tree_copy.proofs.Copies.{copied, others}
 use Rattle.tree_copy.proofs.Fits.{Known, are_items, makes_dirs, parent_short, stand_in}

@@ -1,40 +1,19 @@
 -- The answers show the fate of an entry.
-use Rattle.std.proofs.Common.{◌≡◌, ◌≢◌, ◌⊎◌, inl, inr, ℕ, zero, suc, Bool, true, false, cond, ◌||◌, ◌&&◌, List, [], ◌∷◌}
-use Rattle.std.proofs.Common.{length, map, Option, Some, None}
-use Rattle.std.proofs.Common.{refl, ap, ◌∙◌, sym, subst, slice_get, is_none, is_some, arith}
-use Rattle.std.proofs.lemmas.Bool.{false≢true, or_from}
-use Rattle.std.proofs.lemmas.List.Elements.{All-from_recursion}
-use Rattle.std.specs.Prelude.{Result, Ok, Err, IfOk}
-use Rattle.std.specs.List.{All, AllByRecursion, filter}
-use Rattle.path_text.specs.declared.errors.OutOfMemory.{OutOfMemory}
-use Rattle.outside.specs.Asked.{Asks, Write, Writes}
+use Rattle.tree_copy.proofs.Prelude.{◌≡◌, ◌≢◌, ◌⊎◌, inl, inr, ℕ, zero, suc, Bool, true, false, cond, ◌||◌, ◌&&◌, List, [], ◌∷◌, length, map, Option, Some, None}
+use Rattle.tree_copy.proofs.Prelude.{refl, ap, ◌∙◌, sym, subst, slice_get, is_some, arith, false≢true, or_from, All-from_recursion, Result, Ok, Err, IfOk, All}
+use Rattle.tree_copy.proofs.Prelude.{AllByRecursion, filter, OutOfMemory, Asks, Write, Writes, Area, Failed, WriteError, Kind, ReadError, Stat, Entry, is_kind}
+use Rattle.tree_copy.proofs.Prelude.{is_of, size_by, Item, Fate, Pair, HasCause, IsWritten, LookMeans, ReadMeans, RefusalMeans, Shows, ShowsCopy, ShowsFate}
+use Rattle.tree_copy.proofs.Prelude.{ShowsWhy, WasWritten, copied, stopped, untold, look_means, read_means, refusal_means, is_done, is_tried, is_untold}
+use Rattle.tree_copy.proofs.Prelude.{target_of, treated, AllMayCopy, MayCopy, ShowsFilled, ShowsPlaced, ShowsReplaced, ShowsSpared, is_taken, ShowsLeft}
+use Rattle.tree_copy.proofs.Prelude.{any_odd, has_room, is_odd, is_other, item_of, items_of, settled, settled_by, same_some}
+use Rattle.std.proofs.Common.{is_none}
 use Rattle.outside.specs.Asked as asked
-use Rattle.outside.specs.Writes.{Area}
-use Rattle.outside.specs.declared.failures.Failed.{Failed}
-use Rattle.outside.specs.declared.plots.WriteError.{WriteError}
 use Rattle.outside.specs.declared.plots.WriteError.TheVariants as write
-use Rattle.outside.specs.declared.trees.Kind.{Kind}
 use Rattle.outside.specs.declared.trees.Kind.TheVariants as kind
-use Rattle.outside.specs.declared.trees.ReadError.{ReadError}
 use Rattle.outside.specs.declared.trees.ReadError.TheVariants as read
-use Rattle.outside.specs.declared.trees.Stat.{Stat}
-use Rattle.entry_pages.specs.declared.entries.Entry.{Entry}
-use Rattle.entry_pages.specs.Entries.{is_kind, is_of, size_by}
-use Rattle.level_work.specs.declared.items.Item.{Item}
-use Rattle.level_work.specs.declared.items.Fate.{Fate}
 use Rattle.level_work.specs.declared.items.Fate.TheVariants as fate
-use Rattle.tree_copy.specs.declared.pairs.Pair.{Pair}
-use Rattle.tree_copy.specs.Causes.{HasCause, IsWritten, LookMeans, ReadMeans, RefusalMeans, Shows}
-use Rattle.tree_copy.specs.Causes.{ShowsCopy, ShowsFate, ShowsWhy, WasWritten, copied, stopped, untold}
-use Rattle.tree_copy.specs.Causes.{look_means, read_means, refusal_means}
-use Rattle.level_work.specs.Counts.{is_done}
-use Rattle.tree_copy.specs.Copying.{is_tried, is_untold, target_of, treated}
-use Rattle.tree_copy.specs.PrivateActs.{AllMayCopy, MayCopy, ShowsFilled, ShowsPlaced, ShowsReplaced, ShowsSpared, is_taken}
-use Rattle.tree_copy.specs.PrivateNodes.{ShowsLeft}
-use Rattle.tree_copy.specs.PrivateSettling.{any_odd, has_room, is_odd, is_other, item_of, items_of, settled, settled_by}
 use Rattle.tree_copy.proofs.Copiers.{done_is}
 use Rattle.tree_copy.proofs.Comes.{Comes, Row, items_by, long, tried, under, weaker}
-use Rattle.level_work.proofs.Working.{same_some}
 
 -- which fates answers mean
 

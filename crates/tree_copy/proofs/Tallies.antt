@@ -1,22 +1,10 @@
 -- The tally of the entries that were passed, and what is still to come.
-use Rattle.std.proofs.Common.{◌≡◌, ℕ, ◌+◌, ◌-◌, ◌*◌, ◌<◌, ◌≤◌, Bool, true, false, cond, List, [], ◌∷◌}
-use Rattle.std.proofs.Common.{◌++◌, length, map, drop, Some, refl, ap, ◌∙◌, sym, subst, arith, is_some, slice_get}
-use Rattle.std.proofs.Common.{append_assoc, append-nil, length-append, length-drop, drop_of_length-le}
-use Rattle.std.proofs.lemmas.Bool.{false≢true}
-use Rattle.std.proofs.lemmas.Bool.Decides.{nat_tests}
+use Rattle.tree_copy.proofs.Prelude.{◌≡◌, ℕ, ◌+◌, ◌-◌, ◌*◌, ◌<◌, ◌≤◌, Bool, true, false, cond, List, [], ◌∷◌, ◌++◌, length, map, drop, Some, refl, ap, ◌∙◌, sym}
+use Rattle.tree_copy.proofs.Prelude.{subst, arith, is_some, slice_get, append_assoc, append-nil, length-append, length-drop, drop_of_length-le, false≢true}
+use Rattle.tree_copy.proofs.Prelude.{nat_tests, length-map, map-append, sum_by-cons, count_by, zip, Entry, paths, Fate, is_done, treated, bytes_of, fates_of}
+use Rattle.tree_copy.proofs.Prelude.{fitting, gain, rest_of, settled, split_drop, some_at}
 use Rattle.std.specs.Prelude.{nat_lt}
-use Rattle.std.proofs.lemmas.List.{length-map, map-append}
-use Rattle.std.proofs.lemmas.List.Sums.{sum_by-cons}
-use Rattle.std.specs.List.{count_by, zip}
-use Rattle.entry_pages.specs.declared.entries.Entry.{Entry}
-use Rattle.flat_list.specs.Spelling.{paths}
-use Rattle.level_work.specs.declared.items.Fate.{Fate}
 use Rattle.level_work.specs.declared.items.Fate.TheVariants as fate
-use Rattle.level_work.specs.Counts.{is_done}
-use Rattle.tree_copy.specs.Copying.{treated}
-use Rattle.tree_copy.specs.PrivateSettling.{bytes_of, fates_of, fitting, gain, rest_of, settled}
-use Rattle.level_work.proofs.Giving.{split_drop}
-use Rattle.level_work.proofs.Working.{some_at}
 
 -- ---- the paths and the fates of rows
 

@@ -1,33 +1,12 @@
 -- A run whose files were compared: those that have the bytes of the lead, those that have others, and those that were missed.
-use Rattle.std.proofs.Common.{◌≡◌, ℕ, zero, suc, ◌+◌, ◌<◌, ◌≤◌, Bool, true, false, cond, List, [], ◌∷◌, ◌++◌, length, map, filter, get_or, Option, Some}
-use Rattle.std.proofs.Common.{None, IfSome, All}
-use Rattle.std.proofs.Common.{IsPermutation, IsSorted, refl, sym, ap, subst, ◌∙◌, arith, eqb, length-append}
-use Rattle.std.specs.FinMap.{get}
-use Rattle.std.specs.Cmp.Lexicographic.{pointwise}
-use Rattle.std.proofs.lemmas.Bool.{false≢true}
-use Rattle.std.proofs.lemmas.List.{get_or_default, get_or-map, length-map}
-use Rattle.std.proofs.lemmas.List.Elements.{All-nil, All-head, All-tail, All-append, All-filter, All-map, filter_passes}
-use Rattle.std.proofs.lemmas.List.Sums.{count_by-le-length, length-filter, sum_by-cons}
-use Rattle.std.proofs.lemmas.List.Sorted.{All-permutation}
-use Rattle.path_text.specs.Order.{path_cmp}
-use Rattle.outside.specs.Asked.{Asks}
-use Rattle.outside.specs.Tree.{Files, content}
-use Rattle.entry_pages.specs.declared.entries.Entry.{Entry}
-use Rattle.tree_dup.specs.Told.{Told, Grouping}
-use Rattle.tree_cmp.specs.Readers.{ShowsFailure, ShowsChange}
-use Rattle.tree_dup.specs.Grouping.{has, is_read, is_sized, HaveCauses, ShowsWhole, AreWhole}
-use Rattle.tree_cmp.specs.declared.reading.Missing.TheVariants.{Failed, Changed}
-use Rattle.tree_dup.specs.declared.runs.Standing.{Standing}
-use Rattle.tree_dup.specs.declared.runs.Standing.TheVariants.{Alike, Other, Missed}
-use Rattle.tree_dup.specs.declared.runs.File.{File}
-use Rattle.tree_dup.specs.Private.Hashing.{IsWhole}
-use Rattle.tree_dup.specs.Private.Dealing.{AreDealt}
-use Rattle.tree_dup.specs.Private.Piles.{times}
-use Rattle.tree_dup.specs.Private.Running.{HasContent, standing_alike, standing_other, standing_failed, standing_changed, is_alike, is_other, is_failed}
-use Rattle.tree_dup.specs.Private.Running.{is_changed}
-use Rattle.shared_reads.specs.Counts.{KeepsUp}
-use Rattle.tree_dup.specs.Private.Running.{still, paths_of, IsThere, Stands, StandsTo, AreSettled, Shows, StandingShows, failures, failures_of}
-use Rattle.tree_dup.specs.Private.Sifting.{IsHashed, IsMade, HaveBytes, AreMissed, misses, piles_of}
+use Rattle.tree_dup.proofs.Prelude.{◌≡◌, ℕ, zero, suc, ◌+◌, ◌<◌, ◌≤◌, Bool, true, false, cond, List, [], ◌∷◌, ◌++◌, length, map, filter, get_or, Option, Some}
+use Rattle.tree_dup.proofs.Prelude.{None, IfSome, All, IsPermutation, IsSorted, refl, sym, ap, subst, ◌∙◌, arith, eqb, length-append, get, pointwise}
+use Rattle.tree_dup.proofs.Prelude.{false≢true, get_or_default, get_or-map, length-map, All-nil, All-head, All-tail, All-append, All-filter, All-map}
+use Rattle.tree_dup.proofs.Prelude.{filter_passes, count_by-le-length, length-filter, sum_by-cons, All-permutation, path_cmp, Asks, Files, content, Entry, Told}
+use Rattle.tree_dup.proofs.Prelude.{Grouping, ShowsFailure, ShowsChange, has, is_read, is_sized, HaveCauses, ShowsWhole, AreWhole, Failed, Changed, Standing}
+use Rattle.tree_dup.proofs.Prelude.{Alike, Other, Missed, File, IsWhole, AreDealt, times, HasContent, standing_alike, standing_other, standing_failed}
+use Rattle.tree_dup.proofs.Prelude.{standing_changed, is_alike, is_other, is_failed, is_changed, KeepsUp, still, paths_of, IsThere, Stands, StandsTo}
+use Rattle.tree_dup.proofs.Prelude.{AreSettled, Shows, StandingShows, failures, failures_of, IsHashed, IsMade, HaveBytes, AreMissed, misses, piles_of}
 use Rattle.tree_dup.proofs.Piled.{one_if, times-cons, times-append, times-permutation, have}
 use Rattle.tree_dup.proofs.Parted.{AreParted, Differ, parted_divided}
 use Rattle.tree_dup.proofs.Sifted.{path_of}

@@ -1,16 +1,8 @@
 -- Runs that workers compared.
-use Rattle.std.proofs.Common.{◌≡◌, ℕ, suc, ◌+◌, ◌<◌, ◌≤◌, false, List, [], ◌∷◌, length, map, take, drop, get_or, refl, sym, ap, subst, ◌∙◌}
-use Rattle.std.proofs.Common.{arith, All, IfSome, Option}
-use Rattle.std.proofs.lemmas.List.{length-take-le, length-drop, drop-take, take-take}
-use Rattle.std.proofs.lemmas.List.Sums.{sum_by-cons}
-use Rattle.outside.specs.Asked.{Asks}
-use Rattle.outside.specs.Tree.{Files}
-use Rattle.tree_dup.specs.declared.runs.File.{File}
-use Rattle.tree_dup.specs.declared.runs.Comparison.{Comparison}
-use Rattle.tree_dup.specs.declared.runs.Standing.{Standing}
-use Rattle.tree_dup.specs.declared.runs.Standing.TheVariants.{Alike}
-use Rattle.tree_dup.specs.Private.Running.{AreStandings, StandFrom, StandFor, standing_of, standing_other, faults_in, failures, failures_of, still}
-use Rattle.tree_dup.specs.Private.Running.{Went, Shows, IsThere, AreSettled, is_other}
+use Rattle.tree_dup.proofs.Prelude.{◌≡◌, ℕ, suc, ◌+◌, ◌<◌, ◌≤◌, false, List, [], ◌∷◌, length, map, take, drop, get_or, refl, sym, ap, subst, ◌∙◌, arith, All}
+use Rattle.tree_dup.proofs.Prelude.{IfSome, Option, length-take-le, length-drop, drop-take, take-take, sum_by-cons, Asks, Files, File, Comparison, Standing}
+use Rattle.tree_dup.proofs.Prelude.{Alike, AreStandings, StandFrom, StandFor, standing_of, standing_other, faults_in, failures, failures_of, still, Went, Shows}
+use Rattle.tree_dup.proofs.Prelude.{IsThere, AreSettled, is_other}
 use Rattle.tree_dup.proofs.Classes.{alike_shows, still_alike}
 
 none : File

@@ -1,16 +1,9 @@
 -- Counts of faults while files are read, and the first of several readers, which goes on after all read together.
-use Rattle.std.proofs.Common.{◌≡◌, ℕ, zero, suc, ◌+◌, ◌-◌, ◌^◌, ◌<◌, ◌≤◌, List, length, map, get_or, set, min}
-use Rattle.std.proofs.Common.{refl, sym, ap, subst, ◌∙◌, arith, All, Option, Result, Ok, Err, OnOk}
-use Rattle.outside.specs.Asked.{Asks}
-use Rattle.outside.specs.Count.{RoseBy}
-use Rattle.outside.specs.Tree.{Files}
-use Rattle.shared_reads.specs.Counts.{NoneFell, RoseTogether, KeepsUp, KeepUp}
-use Rattle.shared_reads.proofs.Counted.{keeps_still, then_fell, then_kept, then_rose, first_same, still_some}
-use Rattle.tree_cmp.specs.Readers.{Alike, first_told}
-use Rattle.tree_cmp.proofs.Counted.{all_tell, first_tree}
-use Rattle.tree_dup.specs.Grouping.{HaveCauses}
-use Rattle.tree_dup.specs.Told.{Grouping}
-use Rattle.tree_dup.specs.Private.Sifting.{ReadOn}
+use Rattle.tree_dup.proofs.Prelude.{◌≡◌, ℕ, zero, suc, ◌+◌, ◌-◌, ◌^◌, ◌<◌, ◌≤◌, List, length, map, get_or, set, min, refl, sym, ap, subst, ◌∙◌, arith, All}
+use Rattle.tree_dup.proofs.Prelude.{Option, Result, Ok, Err, OnOk, Asks, RoseBy, Files, NoneFell, KeepsUp, KeepUp, keeps_still, then_fell, then_kept, then_rose}
+use Rattle.tree_dup.proofs.Prelude.{first_same, still_some, first_told, all_tell, first_tree, HaveCauses, Grouping, ReadOn}
+use Rattle.shared_reads.specs.Counts.{RoseTogether}
+use Rattle.tree_cmp.specs.Readers.{Alike}
 
 -- ---- one count
 

@@ -1,8 +1,5 @@
 -- One more file of a run is dealt out.
-use Rattle.std.proofs.Common.{◌≡◌, ℕ, List, [], refl, sym, subst, append-nil}
-use Rattle.tree_dup.specs.Told.{Grouping}
-use Rattle.tree_dup.specs.declared.runs.File.{File}
-use Rattle.tree_dup.specs.Private.Dealing.{AreDealt}
+use Rattle.tree_dup.proofs.Prelude.{◌≡◌, ℕ, List, [], refl, sym, subst, append-nil, Grouping, File, AreDealt}
 
 pub dealt_none : (found : Grouping) → AreDealt [] [] [] found found
 dealt_none found = record {

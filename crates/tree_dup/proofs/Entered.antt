@@ -1,39 +1,14 @@
 -- One more entry of a list: it is a candidate or it is none.
-use Rattle.std.proofs.Common.{◌≡◌, ℕ, ◌+◌, ◌<◌, ◌≤◌, Bool, true, false, not, ◌&&◌, ◌==◌, List, [], ◌∷◌, ◌++◌, length, map, take}
-use Rattle.std.proofs.Common.{Option, Some, None}
-use Rattle.std.proofs.Common.{IfSome, refl, sym, ap, subst, ◌∙◌, arith, eqb, count_by, nat_eq, if◌then◌else◌, nat_lt, slice_get}
-use Rattle.std.proofs.Common.{◌-◌, min}
-use Rattle.std.specs.FinMap.{get}
-use Rattle.std.specs.Cmp.{first_so}
-use Rattle.std.specs.Cmp.Lexicographic.{pointwise}
-use Rattle.std.specs.Option.{option_map}
-use Rattle.std.proofs.lemmas.Bool.{false≢true, eq-eqb, ne_eqb, ltb-false, and_from}
-use Rattle.std.proofs.lemmas.List.{map-append, take_all}
-use Rattle.std.proofs.lemmas.List.Elements.{All-nil, All-push}
-use Rattle.std.proofs.lemmas.List.Folds.{list_any_at}
-use Rattle.std.proofs.lemmas.List.Sums.{sum_by_more}
-use Rattle.std.proofs.lemmas.Option.{slice_get_within, get_or_from_slice_get}
-use Rattle.outside.specs.Tree.{Files, stat_of}
+use Rattle.tree_dup.proofs.Prelude.{◌≡◌, ℕ, ◌+◌, ◌<◌, ◌≤◌, Bool, true, false, not, ◌&&◌, ◌==◌, List, [], ◌∷◌, ◌++◌, length, map, take, Option, Some, None}
+use Rattle.tree_dup.proofs.Prelude.{IfSome, refl, sym, ap, subst, ◌∙◌, arith, eqb, count_by, nat_eq, if◌then◌else◌, nat_lt, slice_get, ◌-◌, min, get, first_so}
+use Rattle.tree_dup.proofs.Prelude.{pointwise, option_map, false≢true, eq-eqb, ne_eqb, ltb-false, and_from, map-append, take_all, All-nil, All-push}
+use Rattle.tree_dup.proofs.Prelude.{list_any_at, sum_by_more, slice_get_within, get_or_from_slice_get, Files, stat_of, Stat, Entry, is_of, size_by, StatsTold}
+use Rattle.tree_dup.proofs.Prelude.{has, is_candidate, is_read, is_sized, File, times, IsFileOf, file_of, IsThere, paths_of, still, AreListed, IsListed}
+use Rattle.tree_dup.proofs.Prelude.{candidates_in, HashMap, FoldHasher, BuildHasherDefault, candidate_size, file_size, AreCounts, at_itself}
 use Rattle.outside.specs.declared.trees.Kind.TheVariants as kind
-use Rattle.outside.specs.declared.trees.Stat.{Stat}
-use Rattle.entry_pages.specs.declared.entries.Entry.{Entry}
-use Rattle.entry_pages.specs.Entries.{is_of, size_by}
-use Rattle.tree_cmp.specs.Readers.{StatsTold}
-use Rattle.tree_dup.specs.Grouping.{has, is_candidate, is_read, is_sized}
-use Rattle.tree_dup.specs.declared.runs.File.{File}
-use Rattle.tree_dup.specs.Private.Piles.{times}
-use Rattle.tree_cmp.specs.Filling.{IsFileOf}
-use Rattle.tree_cmp.proofs.OneRow.{file_of}
-use Rattle.tree_dup.specs.Private.Running.{IsThere, paths_of, still}
-use Rattle.tree_dup.specs.Private.Sifting.{AreListed, IsListed, candidates_in}
-use Rattle.std.specs.HashMap.{HashMap}
-use Rattle.std.specs.declared.hash.FoldHasher.{FoldHasher}
-use Rattle.std.specs.declared.hash.BuildHasherDefault.{BuildHasherDefault}
-use Rattle.tree_dup.specs.Private.Sizes.{candidate_size, file_size, AreCounts}
 use Rattle.tree_dup.proofs.Piled.{one_if, times-cons, times-append}
 use Rattle.tree_dup.proofs.Parted.{if_told}
 use Rattle.tree_dup.proofs.Sifted.{path_of}
-use Rattle.outside.proofs.Saved.{at_itself}
 
 -- ---- a file of its size
 

@@ -1,14 +1,8 @@
 -- A file that is hashed piece by piece.
-use Rattle.std.proofs.Common.{◌≡◌, ℕ, zero, suc, ◌+◌, ◌-◌, ◌<◌, ◌≤◌, List, [], ◌∷◌, length, take, drop, min, Option, Some, None, IfSome}
-use Rattle.std.proofs.Common.{refl, sym, ap, subst, ◌∙◌, arith}
-use Rattle.std.proofs.lemmas.List.{take_all, drop-drop, length-drop, nil_from_length}
-use Rattle.std.specs.FinMap.{get}
-use Rattle.std.specs.Hash.FoldHasher.{initial, write, finish}
-use Rattle.std.specs.declared.hash.FoldHasher.{FoldHasher}
-use Rattle.outside.specs.Count.{RoseBy}
-use Rattle.outside.specs.Tree.{Files, content}
-use Rattle.tree_dup.specs.Private.Hashing.{fed, fed_all, content_hash}
-use Rattle.tree_cmp.specs.Filling.{Fills, IsFileOf, IsShort}
+use Rattle.tree_dup.proofs.Prelude.{◌≡◌, ℕ, zero, suc, ◌+◌, ◌-◌, ◌<◌, ◌≤◌, List, [], ◌∷◌, length, take, drop, min, Option, Some, None, IfSome, refl, sym, ap}
+use Rattle.tree_dup.proofs.Prelude.{subst, ◌∙◌, arith, take_all, drop-drop, length-drop, nil_from_length, get, initial, write, finish, FoldHasher, RoseBy}
+use Rattle.tree_dup.proofs.Prelude.{Files, content, fed_all, content_hash, Fills, IsFileOf, IsShort}
+use Rattle.tree_dup.specs.Private.Hashing.{fed}
 
 -- ---- a hasher that takes pieces of 64 KiB
 

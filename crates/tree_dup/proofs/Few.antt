@@ -1,26 +1,11 @@
 -- Groups have no more paths than the list that they are of: each path stands in one group at most, and once there.
-use Rattle.std.proofs.Common.{◌≡◌, ℕ, zero, suc, ◌<◌, ◌≤◌, Bool, true, false, ◌&&◌, ◌||◌}
-use Rattle.std.proofs.Common.{List, [], ◌∷◌, length, map, refl, sym, ◌∙◌, ap, arith}
-use Rattle.std.proofs.Common.{eqb, All, count_by, Option}
-use Rattle.std.specs.List.{AllByRecursion, IsDistinct, flat_map, list_any, sum_by}
-use Rattle.std.specs.List.Sorted.{IsStrictlySortedBy}
-use Rattle.std.specs.Cmp.Lexicographic.{pointwise}
-use Rattle.std.proofs.lemmas.Bool.{false≢true}
-use Rattle.std.proofs.lemmas.Cmp.{nat_list_eq_equiv}
-use Rattle.std.proofs.lemmas.List.{length-map}
-use Rattle.std.proofs.lemmas.List.Concat.{flat_map-cons, length-flat_map}
-use Rattle.std.proofs.lemmas.List.Elements.{recursion_from_All}
-use Rattle.std.proofs.lemmas.List.Sums.{sum_by-cons}
-use Rattle.std.proofs.lemmas.Map.Made.{length-le_from_is_member}
-use Rattle.path_text.specs.Order.{path_cmp}
-use Rattle.outside.specs.Tree.{Files}
-use Rattle.entry_pages.specs.declared.entries.Entry.{Entry}
-use Rattle.tree_dup.specs.Grouping.{IsGrouping, has, is_candidate, is_in}
-use Rattle.tree_dup.specs.Private.Piles.{times}
-use Rattle.tree_dup.specs.Told.{Told, Grouping}
+use Rattle.tree_dup.proofs.Prelude.{◌≡◌, ℕ, zero, suc, ◌<◌, ◌≤◌, Bool, true, false, ◌&&◌, ◌||◌, List, [], ◌∷◌, length, map, refl, sym, ◌∙◌, ap, arith, eqb, All}
+use Rattle.tree_dup.proofs.Prelude.{count_by, Option, AllByRecursion, flat_map, list_any, sum_by, IsStrictlySortedBy, pointwise, false≢true, nat_list_eq_equiv}
+use Rattle.tree_dup.proofs.Prelude.{length-map, flat_map-cons, length-flat_map, recursion_from_All, sum_by-cons, length-le_from_is_member, path_cmp, Files}
+use Rattle.tree_dup.proofs.Prelude.{Entry, IsGrouping, has, is_candidate, is_in, times, Told, Grouping, at_itself}
+use Rattle.std.specs.List.{IsDistinct}
 use Rattle.tree_dup.proofs.Piled.{have, any_counts, counts_any, one_if, times-append, times-cons}
 use Rattle.tree_dup.proofs.Strict.{stands_once}
-use Rattle.outside.proofs.Saved.{at_itself}
 
 abbrev Ascends : Told → Type 0
 Ascends g = IsStrictlySortedBy path_cmp g.paths

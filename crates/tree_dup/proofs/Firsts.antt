@@ -1,10 +1,6 @@
 -- Groups in the order of their first paths, as they are seen.
-use Rattle.std.proofs.Common.{◌≡◌, ◌+◌, List, [], ◌∷◌, length, map, IsSortedBy, IsSortedByKey, is_lt, arith, ◌∙◌}
-use Rattle.std.proofs.lemmas.List.{get_or-map, length-map}
-use Rattle.path_text.specs.Order.{path_cmp}
-use Rattle.tree_dup.specs.Grouping.{first_path}
-use Rattle.tree_dup.specs.Shown.{told_of}
-use Rattle.tree_dup.specs.declared.groups.Group.{Group}
+use Rattle.tree_dup.proofs.Prelude.{◌≡◌, ◌+◌, List, [], ◌∷◌, length, map, IsSortedBy, IsSortedByKey, is_lt, arith, ◌∙◌, get_or-map, length-map, path_cmp}
+use Rattle.tree_dup.proofs.Prelude.{first_path, told_of, Group}
 
 pub sorted_shown : (groups : List Group) → IsSortedBy (λ x y. is_lt (path_cmp (first_path (told_of x)) (first_path (told_of y)))) groups →
     IsSortedByKey first_path path_cmp (map told_of groups)

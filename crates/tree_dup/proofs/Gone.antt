@@ -1,24 +1,8 @@
 -- A reader goes over the files of a run.
-use Rattle.std.proofs.Common.{◌≡◌, ℕ, ◌<◌, true, List, length, get_or, set, Option, refl, sym, ap}
-use Rattle.std.proofs.Common.{subst, ◌∙◌, arith}
-use Rattle.std.proofs.lemmas.Bool.{false≢true}
-use Rattle.std.proofs.lemmas.List.{get_or_default, get_or-set_same, get_or-set_other}
-use Rattle.std.proofs.lemmas.List.Elements.{All-set}
-use Rattle.std.proofs.lemmas.List.Sums.{sum_by-set}
-use Rattle.std.proofs.Math.Seq.{map-set_same}
-use mathlib.Core.Logic.{dite}
-use native.Mathlib.Decide.{ℕ_discrete}
-use Rattle.outside.specs.Asked.{Asks}
-use Rattle.outside.specs.Count.{RoseBy}
-use Rattle.outside.specs.Tree.{Files}
-use Rattle.tree_cmp.specs.declared.reading.Missing.{Missing}
-use Rattle.tree_cmp.specs.declared.reading.Missing.TheVariants.{Failed, Changed}
-use Rattle.shared_reads.proofs.Counted.{keeps_still, keeps_on}
-use Rattle.tree_dup.specs.declared.runs.File.{File}
-use Rattle.tree_dup.specs.declared.runs.Standing.{Standing}
-use Rattle.tree_dup.specs.declared.runs.Standing.TheVariants.{Alike, Other, Missed}
-use Rattle.shared_reads.specs.Counts.{KeepsUp}
-use Rattle.tree_dup.specs.Private.Running.{Moved, Went, Shows, StandingShows, standing_alike, failures, failures_of, is_alike, still}
+use Rattle.tree_dup.proofs.Prelude.{◌≡◌, ℕ, ◌<◌, true, List, length, get_or, set, Option, refl, sym, ap, subst, ◌∙◌, arith, false≢true, get_or_default}
+use Rattle.tree_dup.proofs.Prelude.{get_or-set_same, get_or-set_other, All-set, sum_by-set, map-set_same, dite, ℕ_discrete, Asks, RoseBy, Files, Missing}
+use Rattle.tree_dup.proofs.Prelude.{Failed, Changed, keeps_still, keeps_on, File, Standing, Alike, Other, Missed, KeepsUp, Moved, Went, Shows, StandingShows}
+use Rattle.tree_dup.proofs.Prelude.{standing_alike, failures, failures_of, is_alike, still}
 use Rattle.tree_dup.proofs.Classes.{same_length}
 
 -- a fault is counted where a read failed

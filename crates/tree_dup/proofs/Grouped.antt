@@ -1,33 +1,16 @@
 -- Once all is divided and in order, it is the grouping of the files.
-use Rattle.std.proofs.Common.{◌≡◌, ℕ, zero, suc, ◌+◌, ◌<◌, ◌≤◌, Bool, true, false, not, ◌&&◌, ◌||◌, List, [], ◌∷◌, ◌++◌, length, map, get_or, Option}
-use Rattle.std.proofs.Common.{Some, None, IfSome, All}
-use Rattle.std.proofs.Common.{IsPermutation, IsSorted, IsSortedByKey, refl, sym, ap, subst, ◌∙◌, arith, eqb, append-nil, count_by, is_lt}
-use Rattle.std.specs.FinMap.{get}
-use Rattle.std.specs.Cmp.{both_ways, first_so, second_so}
-use Rattle.std.specs.Cmp.Lexicographic.{pointwise, bytes_decides}
-use Rattle.std.specs.List.{list_any}
-use Rattle.std.specs.List.Sorted.{IsStrictlySortedBy}
-use Rattle.std.proofs.lemmas.Bool.{false≢true}
-use Rattle.std.proofs.lemmas.List.{get_or-map, length-map}
-use Rattle.std.proofs.lemmas.List.Elements.{All-nil, All-append, All-head, All-tail}
-use Rattle.std.proofs.lemmas.List.Sums.{sum_by-cons}
-use Rattle.std.proofs.lemmas.List.Sorted.{All-permutation, IsPermutation-map, length_permutation, sum_by-IsPermutation}
-use Rattle.sha2.specs.Sha256.{sha256}
-use Rattle.path_text.specs.Order.{path_cmp}
-use Rattle.outside.specs.Asked.{Asks}
-use Rattle.outside.specs.Tree.{Files, content}
-use Rattle.entry_pages.specs.declared.entries.Entry.{Entry}
-use Rattle.tree_cmp.specs.Readers.{ShowsFailure, ShowsChange}
-use Rattle.tree_dup.specs.Told.{Told, Grouping}
-use Rattle.tree_dup.specs.Grouping.{has, is_candidate, is_read, is_missed, is_kept, is_in, are_together, first, first_path, same_bytes}
-use Rattle.tree_dup.specs.Grouping.{IsByBytes, IsGrouping, HaveCauses, AreWhole}
-use Rattle.tree_dup.specs.Private.Piles.{times, times_in, joints, joints_in}
-use Rattle.tree_dup.specs.Private.Sifting.{AreSifted, AreMissed, IsMade, HaveBytes, IsUndivided, candidates_in, misses, piles_of}
+use Rattle.tree_dup.proofs.Prelude.{◌≡◌, ℕ, zero, suc, ◌+◌, ◌<◌, ◌≤◌, Bool, true, false, not, ◌&&◌, ◌||◌, List, [], ◌∷◌, ◌++◌, length, map, get_or, Option}
+use Rattle.tree_dup.proofs.Prelude.{Some, None, IfSome, All, IsPermutation, IsSorted, IsSortedByKey, refl, sym, ap, subst, ◌∙◌, arith, eqb, append-nil}
+use Rattle.tree_dup.proofs.Prelude.{count_by, is_lt, get, both_ways, first_so, second_so, pointwise, bytes_decides, list_any, IsStrictlySortedBy, false≢true}
+use Rattle.tree_dup.proofs.Prelude.{get_or-map, length-map, All-nil, All-append, All-head, All-tail, sum_by-cons, All-permutation, IsPermutation-map}
+use Rattle.tree_dup.proofs.Prelude.{length_permutation, sum_by-IsPermutation, sha256, path_cmp, Asks, Files, content, Entry, ShowsFailure, ShowsChange, Told}
+use Rattle.tree_dup.proofs.Prelude.{Grouping, has, is_candidate, is_read, is_missed, is_kept, is_in, are_together, first, first_path, same_bytes, IsByBytes}
+use Rattle.tree_dup.proofs.Prelude.{IsGrouping, HaveCauses, AreWhole, times, times_in, joints, joints_in, AreSifted, AreMissed, IsMade, HaveBytes, IsUndivided}
+use Rattle.tree_dup.proofs.Prelude.{candidates_in, misses, piles_of, is_not}
 use Rattle.tree_dup.proofs.Piled.{one_if, positive, positive_so, positive_back, positive-add, positive-min, any_is, any_counts, counts_any, none_any, have}
 use Rattle.tree_dup.proofs.Piled.{times-cons, times-append, times-permutation}
 use Rattle.tree_dup.proofs.Parted.{if_told}
 use Rattle.tree_dup.proofs.Strict.{strict, stands, stands_once}
-use Rattle.flat_list.proofs.Decoded.{is_not}
 
 -- ---- the candidates of a list
 

@@ -1,30 +1,11 @@
 -- Candidates are hashed, one after the other from the last one on, or they are missed.
-use Rattle.std.proofs.Common.{◌≡◌, ℕ, zero, suc, ◌+◌, ◌-◌, ◌<◌, ◌≤◌, true, List, [], ◌∷◌, ◌++◌, length, get_or, set, Option}
-use Rattle.std.proofs.Common.{IfSome, All, IsPermutation, Result, Ok, Err, refl, sym, ap, subst, ◌∙◌, arith, length-append, length-set}
-use Rattle.std.specs.FinMap.{get}
-use Rattle.std.specs.List.{swap_remove}
-use Rattle.std.proofs.lemmas.List.{get_or_default, get_or-set_same, get_or-set_other, get_or-take, length-take-le, take_all}
-use Rattle.std.proofs.lemmas.List.Elements.{All-push, All-set, All-tail, All-head, All-nil}
-use Rattle.std.proofs.lemmas.List.Sorted.{All-permutation, IsPermutation-map, IsPermutation-swap_remove}
-use Rattle.std.proofs.Math.Seq.{map-set_same}
-use mathlib.Core.Logic.{dite}
-use native.Mathlib.Decide.{ℕ_discrete}
-use Rattle.outside.specs.Asked.{Asks}
-use Rattle.outside.specs.Count.{RoseBy}
-use Rattle.outside.specs.Tree.{Files, content}
-use Rattle.entry_pages.specs.declared.entries.Entry.{Entry}
-use Rattle.tree_cmp.specs.Readers.{ShowsFailure, ShowsChange}
-use Rattle.tree_dup.specs.Told.{Grouping}
-use Rattle.tree_dup.specs.Grouping.{has, is_read, HaveCauses}
-use Rattle.tree_cmp.specs.declared.reading.Missing.{Missing}
-use Rattle.tree_cmp.specs.declared.reading.Missing.TheVariants.{Failed, Changed}
-use Rattle.tree_dup.specs.declared.runs.File.{File}
-use Rattle.tree_dup.specs.declared.runs.Standing.TheVariants.{Alike}
-use Rattle.tree_dup.specs.Private.Dealing.{with_missed}
-use Rattle.tree_dup.specs.Private.Hashing.{IsHash, IsWhole, AreHashes, WasPut, content_hash, hash_faults}
-use Rattle.tree_dup.specs.Private.Piles.{times}
-use Rattle.tree_dup.specs.Private.Running.{IsThere, paths_of}
-use Rattle.tree_dup.specs.Private.Sifting.{IsListed, AreListed, AreHashed, AreMissed, candidates_in, misses}
+use Rattle.tree_dup.proofs.Prelude.{◌≡◌, ℕ, zero, suc, ◌+◌, ◌-◌, ◌<◌, ◌≤◌, true, List, [], ◌∷◌, ◌++◌, length, get_or, set, Option, IfSome, All, IsPermutation}
+use Rattle.tree_dup.proofs.Prelude.{Result, Ok, Err, refl, sym, ap, subst, ◌∙◌, arith, length-append, length-set, get, swap_remove, get_or_default}
+use Rattle.tree_dup.proofs.Prelude.{get_or-set_same, get_or-set_other, get_or-take, length-take-le, take_all, All-push, All-set, All-tail, All-head, All-nil}
+use Rattle.tree_dup.proofs.Prelude.{All-permutation, IsPermutation-map, IsPermutation-swap_remove, map-set_same, dite, ℕ_discrete, Asks, RoseBy, Files, content}
+use Rattle.tree_dup.proofs.Prelude.{Entry, ShowsFailure, ShowsChange, Grouping, has, is_read, HaveCauses, Missing, Failed, Changed, File, Alike, with_missed}
+use Rattle.tree_dup.proofs.Prelude.{IsHash, IsWhole, AreHashes, WasPut, content_hash, hash_faults, times, IsThere, paths_of, IsListed, AreListed, AreHashed}
+use Rattle.tree_dup.proofs.Prelude.{AreMissed, candidates_in, misses}
 use Rattle.tree_dup.proofs.Piled.{times-cons, times-append, times-permutation}
 use Rattle.tree_dup.proofs.Parted.{if_any, if_both}
 use Rattle.tree_dup.proofs.Sifted.{path_of}
@@ -42,7 +23,6 @@ behind j k l ne = by (j - k) refl
 -- ---- a candidate leaves
 
 module _ (files : List File) (k : ℕ) (f : File) (inside : k < length files) where
-
   length_left : length (swap_remove files k f) + 1 ≡ length files
   length_left =
       omega (

@@ -1,15 +1,7 @@
 -- A class becomes a group, or is left out.
-use Rattle.std.proofs.Common.{◌≡◌, ℕ, ◌≤◌, List, [], ◌∷◌, ◌++◌, length, map, Option, All, IsPermutation, IsSorted, sym, ap, subst, ◌∙◌}
-use Rattle.std.proofs.Common.{append_assoc}
-use Rattle.std.proofs.lemmas.List.{map-append}
-use Rattle.std.proofs.lemmas.List.Elements.{All-cons, All-head, All-tail, All-push}
-use Rattle.path_text.specs.Order.{path_cmp}
-use Rattle.outside.specs.Tree.{Files}
-use Rattle.entry_pages.specs.declared.entries.Entry.{Entry}
-use Rattle.tree_dup.specs.Told.{Told, Grouping}
-use Rattle.tree_dup.specs.declared.runs.File.{File}
-use Rattle.tree_dup.specs.Private.Running.{paths_of}
-use Rattle.tree_dup.specs.Private.Sifting.{IsHashed, IsMade, AreMissed, AreSifted, misses, piles_of}
+use Rattle.tree_dup.proofs.Prelude.{◌≡◌, ℕ, ◌≤◌, List, [], ◌∷◌, ◌++◌, length, map, Option, All, IsPermutation, IsSorted, sym, ap, subst, ◌∙◌, append_assoc}
+use Rattle.tree_dup.proofs.Prelude.{map-append, All-cons, All-head, All-tail, All-push, path_cmp, Files, Entry, Told, Grouping, File, paths_of, IsHashed}
+use Rattle.tree_dup.proofs.Prelude.{IsMade, AreMissed, AreSifted, misses, piles_of}
 use Rattle.tree_dup.proofs.Parted.{AreParted, Piles, parted_left}
 use Rattle.tree_dup.proofs.Classes.{IsClass, class_parted, class_missed, class_made, left_hashed}
 

@@ -1,3 +1,4 @@
+mod Prelude
 mod Classes
 mod Compared
 mod Counted

@@ -1,10 +1,6 @@
 -- Candidates in piles: what stays so where a pile is divided or left out.
-use Rattle.std.proofs.Common.{◌≡◌, ℕ, ◌+◌, ◌<◌, ◌≤◌, List, [], ◌∷◌, ◌++◌, length, Option, Some, None, IfSome, sym, ap, arith}
-use Rattle.std.specs.FinMap.{get}
-use Rattle.outside.specs.Tree.{Files, content}
-use Rattle.entry_pages.specs.declared.entries.Entry.{Entry}
-use Rattle.tree_dup.specs.Private.Piles.{times, times_in, joints_in}
-use Rattle.tree_dup.specs.Private.Sifting.{candidates_in, IsUndivided}
+use Rattle.tree_dup.proofs.Prelude.{◌≡◌, ℕ, ◌+◌, ◌<◌, ◌≤◌, List, [], ◌∷◌, ◌++◌, length, Option, Some, None, IfSome, sym, ap, arith, get, Files, content, Entry}
+use Rattle.tree_dup.proofs.Prelude.{times, times_in, joints_in, candidates_in, IsUndivided}
 use Rattle.tree_dup.proofs.Piled.{divided_once, divided_joints, left_once, left_joints, times_in-split, joints_in-split}
 
 abbrev pub Piles : Type 0

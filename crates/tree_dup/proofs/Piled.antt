@@ -1,15 +1,8 @@
 -- Paths in piles: how often they stand there, and what is so after a pile is divided or left out.
-use Rattle.std.proofs.Common.{◌≡◌, ℕ, zero, suc, ◌+◌, ◌<◌, ◌≤◌, min, Bool, true, false, cond, ◌&&◌, ◌||◌, List, [], ◌∷◌, ◌++◌, length, refl, sym, ap}
-use Rattle.std.proofs.Common.{subst, ◌∙◌, arith}
-use Rattle.std.proofs.Common.{eqb, All, IsPermutation, count_by}
-use Rattle.std.specs.List.{list_any}
-use Rattle.std.specs.Cmp.Lexicographic.{pointwise, bytes_decides}
-use Rattle.std.proofs.lemmas.Bool.{false≢true}
-use Rattle.std.proofs.lemmas.List.Elements.{All-head, All-tail}
-use Rattle.std.proofs.lemmas.List.Sums.{sum_by-cons, sum_by-append}
-use Rattle.std.proofs.lemmas.List.Sorted.{sum_by-IsPermutation}
-use Rattle.tree_dup.specs.Private.Piles.{times, times_in, joints, joints_in}
-use Rattle.tree_cmp.proofs.Taken.{same}
+use Rattle.tree_dup.proofs.Prelude.{◌≡◌, zero, suc, ◌+◌, ◌<◌, ◌≤◌, min, true, false, cond, ◌&&◌, ◌||◌, List, [], ◌∷◌, ◌++◌, length, refl, sym, ap, subst, ◌∙◌}
+use Rattle.tree_dup.proofs.Prelude.{arith, eqb, All, IsPermutation, count_by, list_any, pointwise, bytes_decides, false≢true, All-head, All-tail, sum_by-cons}
+use Rattle.tree_dup.proofs.Prelude.{sum_by-append, sum_by-IsPermutation, times, times_in, joints, joints_in, same}
+use Rattle.std.proofs.Common.{ℕ, Bool}
 
 -- ---- tests and numbers
 

@@ -1,17 +1,10 @@
 -- The last files of one size and one hash.
-use Rattle.std.proofs.Common.{◌≡◌, ℕ, zero, suc, ◌+◌, ◌-◌, ◌<◌, ◌≤◌, Bool, true, false, ◌==◌, List, [], ◌∷◌, length, map, take, drop, get_or}
-use Rattle.std.proofs.Common.{All, IsSorted, refl, sym, ap, ◌∙◌, arith, subst, is_lt, nat_cmp, Ordering, Less, Equal, Greater, length-drop}
-use Rattle.std.specs.Cmp.{first_so, second_so}
-use Rattle.std.specs.Cmp.Lexicographic.{slice_cmp}
-use Rattle.std.specs.FinMap.{slice_cmp-IsAntisymmetric, nat_cmp-IsAntisymmetric}
-use Rattle.std.specs.Cmp.{IsStrictWeakOrder}
-use Rattle.std.specs.Ordering.{ordering_reverse, ordering_then}
-use Rattle.std.proofs.lemmas.Bool.{false≢true, eqb-true, eq-eqb, and_from}
-use Rattle.std.proofs.lemmas.Cmp.{nat_list_cmp_total}
-use Rattle.std.proofs.lemmas.List.{drop-map, get_or_default, get_or-drop, get_or-take, take-map}
-use Rattle.std.proofs.lemmas.List.Sorted.{ranks_by, sorted_far}
-use Rattle.tree_dup.specs.declared.runs.File.{File}
-use Rattle.tree_dup.specs.Private.Running.{HasContent, IsRun, IsLastRun, content_cmp, same_content, still}
+use Rattle.tree_dup.proofs.Prelude.{◌≡◌, ℕ, zero, suc, ◌+◌, ◌-◌, ◌<◌, ◌≤◌, Bool, true, false, ◌==◌, List, [], ◌∷◌, length, map, take, drop, get_or, All}
+use Rattle.tree_dup.proofs.Prelude.{IsSorted, refl, sym, ap, ◌∙◌, arith, subst, is_lt, nat_cmp, Ordering, Less, Equal, Greater, first_so, second_so, slice_cmp}
+use Rattle.tree_dup.proofs.Prelude.{slice_cmp-IsAntisymmetric, nat_cmp-IsAntisymmetric, IsStrictWeakOrder, ordering_reverse, ordering_then, false≢true}
+use Rattle.tree_dup.proofs.Prelude.{eqb-true, eq-eqb, and_from, nat_list_cmp_total, drop-map, get_or_default, get_or-drop, get_or-take, take-map, ranks_by}
+use Rattle.tree_dup.proofs.Prelude.{sorted_far, File, HasContent, IsRun, IsLastRun, content_cmp, same_content, still}
+use Rattle.std.proofs.Common.{length-drop}
 
 -- content by which files are in order
 abbrev pub key : File → List ℕ

@@ -1,20 +1,10 @@
 -- Files that are divided step by step: at first all candidates, then a run of one size and one hash, then those of other bytes.
-use Rattle.std.proofs.Common.{◌≡◌, ℕ, ◌+◌, ◌<◌, ◌≤◌, true, ◌==◌, List, [], ◌∷◌, ◌++◌, length, map, take, drop, get_or}
-use Rattle.std.proofs.Common.{Option, Some, None}
-use Rattle.std.proofs.Common.{IfSome, All, IsPermutation, sym, ap, subst, ◌∙◌, arith, length-drop}
-use Rattle.std.specs.FinMap.{get}
-use Rattle.std.proofs.lemmas.Bool.{false≢true, eq-eqb, and_from}
-use Rattle.std.proofs.lemmas.List.{get_or_default, get_or-drop, get_or-take, length-map, map-append, length-take-le, take-append-drop}
-use Rattle.std.proofs.lemmas.List.Elements.{All-nil, All-cons, All-head, All-tail, All-take, All-drop, All-map}
-use Rattle.std.proofs.lemmas.List.Sorted.{All-permutation, IsPermutation-map}
-use Rattle.outside.specs.Tree.{Files, content}
-use Rattle.entry_pages.specs.declared.entries.Entry.{Entry}
-use Rattle.tree_dup.specs.Told.{Grouping}
-use Rattle.tree_dup.specs.declared.runs.File.{File}
-use Rattle.tree_dup.specs.Private.Hashing.{content_hash}
-use Rattle.tree_dup.specs.Private.Piles.{times}
-use Rattle.tree_dup.specs.Private.Running.{IsLastRun, paths_of, same_content}
-use Rattle.tree_dup.specs.Private.Sifting.{IsHashed, IsMade, AreSifted, AreHashed, candidates_in, misses, piles_of}
+use Rattle.tree_dup.proofs.Prelude.{◌≡◌, ℕ, ◌+◌, ◌<◌, ◌≤◌, true, ◌==◌, List, [], ◌∷◌, ◌++◌, length, map, take, drop, get_or, Option, Some, None, IfSome, All}
+use Rattle.tree_dup.proofs.Prelude.{IsPermutation, sym, ap, subst, ◌∙◌, arith, get, false≢true, eq-eqb, and_from, get_or_default, get_or-drop, get_or-take}
+use Rattle.tree_dup.proofs.Prelude.{length-map, map-append, length-take-le, take-append-drop, All-nil, All-cons, All-head, All-tail, All-take, All-drop}
+use Rattle.tree_dup.proofs.Prelude.{All-map, All-permutation, IsPermutation-map, Files, content, Entry, Grouping, File, content_hash, times, IsLastRun}
+use Rattle.tree_dup.proofs.Prelude.{paths_of, same_content, IsHashed, IsMade, AreSifted, AreHashed, candidates_in, misses, piles_of}
+use Rattle.std.proofs.Common.{length-drop}
 use Rattle.tree_dup.proofs.Piled.{times-append, times-permutation, have}
 use Rattle.tree_dup.proofs.Parted.{AreParted, Differ, parted_divided, parted_left, parted_first}
 

@@ -1,30 +1,10 @@
 -- How the files of a run stand to the lead, piece by piece.
-use Rattle.std.proofs.Common.{◌≡◌, ℕ, ◌+◌, ◌<◌, ◌≤◌, Bool, true, false, List, [], ◌++◌, length, map, take, drop, get_or, set, Option}
-use Rattle.std.proofs.Common.{Some, None, IfSome, if◌then◌else◌}
-use Rattle.std.proofs.Common.{All, refl, sym, ap, subst, ◌∙◌, arith, eqb, length-set, length-append}
-use Rattle.std.specs.FinMap.{get}
-use Rattle.std.specs.Cmp.Lexicographic.{pointwise, bytes_decides}
-use Rattle.std.proofs.lemmas.Bool.{false≢true}
-use Rattle.std.proofs.lemmas.List.{get_or-set_same, get_or-set_other, take-take, take_all}
-use Rattle.std.proofs.lemmas.List.Elements.{All-set}
-use Rattle.std.proofs.Math.Seq.{take-add, drop-append_seam, take-append_seam}
-use mathlib.Core.Logic.{dite}
-use native.Mathlib.Decide.{ℕ_discrete}
-use Rattle.sha2.specs.Hashers.{Holds256}
-use Rattle.sha2.specs.Sha256.{sha256}
-use Rattle.sha2.specs.declared.Sha256.{Sha256}
-use Rattle.outside.specs.Asked.{Asks}
-use Rattle.outside.specs.Count.{RoseBy}
-use Rattle.outside.specs.Tree.{Files, content}
-use Rattle.tree_cmp.specs.declared.reading.Missing.{Missing}
-use Rattle.tree_cmp.specs.declared.reading.Missing.TheVariants.{Failed, Changed}
-use Rattle.tree_dup.specs.declared.runs.Standing.{Standing}
-use Rattle.tree_dup.specs.declared.runs.Standing.TheVariants.{Alike, Other, Missed}
-use Rattle.tree_dup.specs.declared.runs.File.{File}
-use Rattle.tree_cmp.specs.Filling.{Fills, IsShort, IsFileOf}
-use Rattle.shared_reads.specs.Counts.{KeepsUp}
-use Rattle.tree_dup.specs.Private.Running.{failures_of, StandingShows, standing_alike, is_alike, still, IsThere, Stands, StandsAt}
-use Rattle.tree_dup.specs.Private.Running.{AreDivided, AreSettled}
+use Rattle.tree_dup.proofs.Prelude.{◌≡◌, ℕ, ◌+◌, ◌<◌, ◌≤◌, Bool, true, false, List, [], ◌++◌, length, map, take, drop, get_or, set, Option, Some, None, IfSome}
+use Rattle.tree_dup.proofs.Prelude.{if◌then◌else◌, All, refl, sym, ap, subst, ◌∙◌, arith, eqb, length-set, length-append, get, pointwise, bytes_decides}
+use Rattle.tree_dup.proofs.Prelude.{false≢true, get_or-set_same, get_or-set_other, take-take, take_all, All-set, take-add, drop-append_seam, take-append_seam}
+use Rattle.tree_dup.proofs.Prelude.{dite, ℕ_discrete, Holds256, sha256, Sha256, Asks, RoseBy, Files, content, Missing, Failed, Changed, Standing, Alike, Other}
+use Rattle.tree_dup.proofs.Prelude.{Missed, File, Fills, IsShort, IsFileOf, KeepsUp, failures_of, StandingShows, standing_alike, is_alike, still, IsThere}
+use Rattle.tree_dup.proofs.Prelude.{Stands, StandsAt, AreDivided, AreSettled}
 use Rattle.tree_dup.proofs.Parted.{if_any, if_told, if_both}
 use Rattle.tree_dup.proofs.Classes.{all_still, still_alike}
 use Rattle.tree_dup.proofs.Gone.{none_keeps}

@@ -1,19 +1,9 @@
 -- Paths in order, each of which stands once, ascend strictly.
-use Rattle.std.proofs.Common.{◌≡◌, ℕ, zero, suc, ◌<◌, ◌≤◌, Bool, true, false, List, [], ◌∷◌, length, get_or, refl, sym, ap, subst, arith}
-use Rattle.std.proofs.Common.{eqb, All, IsSorted, is_lt, Ordering, Less, Equal, Greater}
-use Rattle.std.specs.List.{AllByRecursion}
+use Rattle.tree_dup.proofs.Prelude.{◌≡◌, ℕ, zero, suc, ◌<◌, ◌≤◌, Bool, true, false, List, [], ◌∷◌, length, get_or, refl, sym, ap, subst, arith, eqb, All}
+use Rattle.tree_dup.proofs.Prelude.{IsSorted, is_lt, Ordering, Less, Equal, Greater, AllByRecursion, pointwise, bytes_decides, ordering_reverse, false≢true}
+use Rattle.tree_dup.proofs.Prelude.{recursion_from_All, ranks_by, sorted_far, path_cmp, path_cmp_total, path_cmp_same, times, at_itself, same}
 use Rattle.std.specs.List.Sorted.{IsStrictlySortedBy}
-use Rattle.std.specs.Cmp.Lexicographic.{pointwise, bytes_decides}
-use Rattle.std.specs.Ordering.{ordering_reverse}
-use Rattle.std.proofs.lemmas.Bool.{false≢true}
-use Rattle.std.proofs.lemmas.List.Elements.{recursion_from_All}
-use Rattle.std.proofs.lemmas.List.Sorted.{ranks_by, sorted_far}
-use Rattle.path_text.specs.Order.{path_cmp}
-use Rattle.path_text.specs.Total.{path_cmp_total, path_cmp_same}
-use Rattle.tree_dup.specs.Private.Piles.{times}
 use Rattle.tree_dup.proofs.Piled.{one_if, times-cons}
-use Rattle.outside.proofs.Saved.{at_itself}
-use Rattle.tree_cmp.proofs.Taken.{same}
 
 -- no path comes before one that stands before it
 abbrev Far : List (List ℕ) → Type 0

@@ -1,9 +1,6 @@
 -- What a refusal to remove says, by its tests.
-use Rattle.std.proofs.Common.{◌≡◌, ◌⊎◌, inl, inr, ℕ, ◌<◌, Bool, true, false, cond, not, ◌&&◌, Option, Some, None, refl, sym, arith}
-use Rattle.std.proofs.lemmas.Bool.{false≢true}
-use Rattle.std.proofs.lemmas.Bool.Decides.{nat_tests}
-use Rattle.std.specs.Prelude.{◌==◌}
-use Rattle.outside.specs.declared.plots.WriteError.{WriteError}
+use Rattle.tree_remove.proofs.Prelude.{◌≡◌, ◌⊎◌, inl, inr, ℕ, ◌<◌, Bool, true, false, cond, not, ◌&&◌, Option, Some, None, refl, sym, arith, false≢true}
+use Rattle.tree_remove.proofs.Prelude.{nat_tests, ◌==◌, WriteError}
 use Rattle.outside.specs.declared.plots.WriteError.TheVariants as write
 
 -- the answers to the removal of a directory and of all else, where something is there or not, and it is a directory or not

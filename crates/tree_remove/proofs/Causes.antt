@@ -1,21 +1,9 @@
 -- What shows the fate of each removal.
-use Rattle.std.proofs.Common.{◌≡◌, ◌≢◌, ◌∙◌, ℕ, ◌<◌, List, length, map, get_or, Some, IfOk, ap, sym, subst, arith, slice_get}
-use Rattle.std.proofs.lemmas.List.{length-map, get_or-map}
-use Rattle.std.proofs.lemmas.Option.{slice_get-get_or}
-use Rattle.std.proofs.lemmas.Slice.Zip.{length-zip, get_or-zip}
-use Rattle.std.specs.List.{zip}
-use Rattle.std.specs.Prelude.{Result, Ok, Err}
-use Rattle.path_text.specs.declared.errors.OutOfMemory.{OutOfMemory}
-use Rattle.outside.specs.Asked.{Writes}
-use Rattle.outside.specs.declared.plots.WriteError.{WriteError}
-use Rattle.entry_pages.specs.declared.entries.Entry.{Entry}
-use Rattle.level_work.specs.Levels.{ParentsFail}
-use Rattle.level_work.specs.declared.items.Item.{Item}
-use Rattle.level_work.specs.declared.items.Fate.{Fate}
+use Rattle.tree_remove.proofs.Prelude.{◌≡◌, ◌≢◌, ◌∙◌, ℕ, ◌<◌, List, length, map, get_or, Some, IfOk, ap, sym, subst, arith, slice_get, length-map, get_or-map}
+use Rattle.tree_remove.proofs.Prelude.{slice_get-get_or, length-zip, get_or-zip, zip, Result, Ok, Err, OutOfMemory, Writes, WriteError, Entry, ParentsFail}
+use Rattle.tree_remove.proofs.Prelude.{Item, Fate, item_of, items_of, HaveCauses, ShowsFate, fate_told, removal_of}
 use Rattle.level_work.specs.declared.items.Fate.TheVariants as fate
 use Rattle.level_work.specs.declared.items.Order.TheVariants as order
-use Rattle.tree_remove.specs.PrivateDeeds.{item_of, items_of}
-use Rattle.tree_remove.specs.Removing.{HaveCauses, ShowsFate, fate_told, removal_of}
 
 -- a refusal shows the fate that it means
 pub shown : {S : Type 0} (gives : Writes S) (path : List ℕ) (e : Entry) (x : WriteError) (before after : S) (r : Result Fate OutOfMemory)

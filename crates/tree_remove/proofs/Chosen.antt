@@ -1,30 +1,13 @@
 -- Chosen entries as items of work on levels.
-use Rattle.std.proofs.Common.{◌≡◌, ◌≢◌, ℕ, zero, suc, Bool, true, false, cond, ◌||◌, ◌&&◌, List, [], ◌∷◌, Option, Some, None, refl}
-use Rattle.std.proofs.Common.{ap, ◌∙◌, sym, is_some, is_none, slice_get}
-use Rattle.std.proofs.lemmas.Bool.{false≢true}
-use Rattle.std.proofs.lemmas.List.Elements.{recursion_from_All}
-use Rattle.std.specs.Prelude.{IsTrue}
-use Rattle.std.specs.FinMap.{get}
-use Rattle.std.specs.List.{All, AllByRecursion}
+use Rattle.tree_remove.proofs.Prelude.{◌≡◌, ◌≢◌, ℕ, zero, suc, Bool, true, false, cond, ◌||◌, ◌&&◌, List, [], ◌∷◌, Option, Some, None, refl, ap, ◌∙◌, sym}
+use Rattle.tree_remove.proofs.Prelude.{is_some, is_none, slice_get, false≢true, recursion_from_All, IsTrue, get, All, AllByRecursion, option_map, Less}
+use Rattle.tree_remove.proofs.Prelude.{path_cmp, refusal, parent_of, Files, Node, Body, dir, file, link, other, is_dir, is_dir_body, is_root, kind_of, Stat}
+use Rattle.tree_remove.proofs.Prelude.{Entry, is_of, is_kind, paths, AreItems, StandIn, Item, item_of, items_of, AreChosen, AreThere, same_some, irreflexive}
 use Rattle.std.specs.List.Sorted.{IsStrictlySortedBy}
-use Rattle.std.specs.Option.{option_map}
-use Rattle.std.specs.declared.cmp.Ordering.TheVariants.{Less}
-use Rattle.path_text.specs.Order.{path_cmp}
-use Rattle.path_text.specs.Path.{refusal, parent_of}
-use Rattle.outside.specs.Tree.{Files, Node, Body, dir, file, link, other, IsTree, is_dir, is_dir_body, is_root, kind_of}
+use Rattle.outside.specs.Tree.{IsTree}
 use Rattle.outside.specs.declared.trees.Kind.TheVariants as kind
-use Rattle.outside.specs.declared.trees.Stat.{Stat}
-use Rattle.entry_pages.specs.declared.entries.Entry.{Entry}
-use Rattle.entry_pages.specs.Entries.{is_of, is_kind}
-use Rattle.flat_list.specs.Spelling.{paths}
-use Rattle.level_work.specs.Levels.{AreItems, StandIn}
-use Rattle.level_work.specs.declared.items.Item.{Item}
 use Rattle.level_work.specs.declared.items.Order.TheVariants as order
-use Rattle.tree_remove.specs.PrivateDeeds.{item_of, items_of}
-use Rattle.tree_remove.specs.Removing.{AreChosen, AreThere}
 use Rattle.tree_remove.proofs.Removal.{Stands, not_none}
-use Rattle.level_work.proofs.Working.{same_some}
-use Rattle.path_text.proofs.Under.{irreflexive}
 
 -- the entry of an item, of which this is so
 pub record Told (P : Entry → Type 0) (x : Item) : Type 0 where

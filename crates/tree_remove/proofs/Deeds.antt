@@ -1,29 +1,14 @@
 -- A removal, seen at and under its path.
-use Rattle.std.proofs.Common.{◌≡◌, ◌≢◌, inl, inr, ℕ, ◌<◌, Bool, true, false, cond, not, ◌||◌, ◌&&◌, List, [], ◌∷◌, length, Option, Some, None, IfSome}
-use Rattle.std.proofs.Common.{IfOk, refl, ap, ◌∙◌, sym, subst, arith, is_some, is_none}
-use Rattle.std.specs.Prelude.{◌==◌, Result, Ok, Err, IsTrue}
-use Rattle.std.proofs.lemmas.Bool.{false≢true}
-use Rattle.std.proofs.lemmas.Bool.Decides.{nat_tests}
-use Rattle.std.specs.List.{filter_map, list_any, cons_option}
-use Rattle.std.specs.FinMap.{get, remove, keys, get-remove, contains_key-keys, same_map}
-use Rattle.std.specs.Ordering.{eq_by_cmp}
-use Rattle.std.specs.Cmp.Lexicographic.{bytes_decides}
-use Rattle.path_text.specs.declared.errors.OutOfMemory.{OutOfMemory}
-use Rattle.path_text.specs.Order.{path_cmp, is_within}
-use Rattle.path_text.specs.Total.{path_cmp_total, path_cmp_ties, path_cmp_same}
-use Rattle.outside.specs.Tree.{Files, Node, is_dir, far_at, names_in, name_below}
-use Rattle.outside.specs.Writes.{Answers, SameBut, may_empty, remove_dir_refusal, remove_file_refusal}
-use Rattle.outside.specs.declared.plots.WriteError.{WriteError}
+use Rattle.tree_remove.proofs.Prelude.{◌≡◌, ◌≢◌, inl, inr, ℕ, ◌<◌, Bool, true, false, cond, not, ◌||◌, ◌&&◌, List, [], ◌∷◌, length, Option, Some, None, IfSome}
+use Rattle.tree_remove.proofs.Prelude.{IfOk, refl, ap, ◌∙◌, sym, subst, arith, is_some, is_none, ◌==◌, Result, Ok, Err, IsTrue, false≢true, nat_tests}
+use Rattle.tree_remove.proofs.Prelude.{filter_map, list_any, cons_option, get, remove, keys, get-remove, contains_key-keys, same_map, eq_by_cmp, bytes_decides}
+use Rattle.tree_remove.proofs.Prelude.{OutOfMemory, path_cmp, is_within, path_cmp_total, path_cmp_ties, path_cmp_same, Files, Node, is_dir, far_at, names_in}
+use Rattle.tree_remove.proofs.Prelude.{name_below, Answers, SameBut, may_empty, remove_dir_refusal, remove_file_refusal, WriteError, Entry, is_of, IsDone}
+use Rattle.tree_remove.proofs.Prelude.{at_and_under, Fate, Removal, removal_refusal, told_fate, get_at, get_here}
 use Rattle.outside.specs.declared.plots.WriteError.TheVariants as write
 use Rattle.outside.specs.declared.trees.Kind.TheVariants as kind
-use Rattle.entry_pages.specs.declared.entries.Entry.{Entry}
-use Rattle.entry_pages.specs.Entries.{is_of}
-use Rattle.level_work.specs.Acts.{IsDone, at_and_under}
-use Rattle.level_work.specs.declared.items.Fate.{Fate}
 use Rattle.level_work.specs.declared.items.Fate.TheVariants as fate
-use Rattle.tree_remove.specs.PrivateDeeds.{Removal, removal_refusal, told_fate}
 use Rattle.tree_remove.proofs.Names.{some_named, named_under, under_within}
-use Rattle.level_work.proofs.Frames.{get_at, get_here}
 
 -- a refusal sees no more than what is at and under its path
 

@@ -1,9 +1,5 @@
 -- A map at and under a path, and with one node put into it.
-use Rattle.std.proofs.Common.{◌≡◌, ℕ, cond, List, None, ap, ◌∙◌, sym}
-use Rattle.std.specs.FinMap.{get, get-remove}
-use Rattle.path_text.specs.Total.{path_cmp_total, path_cmp_ties}
-use Rattle.outside.specs.Tree.{Files}
-use Rattle.outside.proofs.Saved.{at_itself}
+use Rattle.tree_remove.proofs.Prelude.{◌≡◌, ℕ, cond, List, None, ap, ◌∙◌, sym, get, get-remove, path_cmp_total, path_cmp_ties, Files, at_itself}
 
 -- nothing is where something was removed
 pub removed_here : (files : Files) (p : List ℕ) → get (Rattle.std.specs.FinMap.remove files p) p ≡ None

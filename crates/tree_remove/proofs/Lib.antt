@@ -1,3 +1,4 @@
+mod Prelude
 pub mod Answers
 pub mod Chosen
 pub mod Deeds

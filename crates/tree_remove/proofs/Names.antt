@@ -1,20 +1,8 @@
 -- Names in a directory, and what stands under it.
-use Rattle.std.proofs.Common.{◌≡◌, ℕ, ◌-◌, ◌<◌, Bool, true, false, cond, not, ◌||◌, ◌&&◌, List, [], ◌∷◌, length, drop, Option, Some, None, refl, ap}
-use Rattle.std.proofs.Common.{◌∙◌, sym, arith, nat_eq, nat_lt, is_some, length-drop}
-use Rattle.std.proofs.lemmas.Bool.{false≢true, or_right}
-use Rattle.std.proofs.lemmas.Bool.Decides.{nat_tests}
-use Rattle.std.specs.Prelude.{◌==◌}
-use Rattle.std.specs.List.{filter_map, list_any, starts_with, cons_option}
-use Rattle.std.specs.FinMap.{get, keys, contains_key-keys}
-use Rattle.std.specs.Ordering.{eq_by_cmp}
-use Rattle.std.specs.Cmp.Lexicographic.{pointwise}
-use Rattle.path_text.specs.Order.{path_cmp, is_within, is_under, front}
-use Rattle.path_text.specs.Total.{path_cmp_ties}
-use Rattle.outside.specs.Tree.{Files, names_in, name_below}
-use Rattle.level_work.specs.Acts.{at_and_under}
-use Rattle.tree_remove.specs.Removing.{HasUnder}
-use Rattle.level_work.proofs.Frames.{get_at}
-use Rattle.outside.proofs.Saved.{at_itself}
+use Rattle.tree_remove.proofs.Prelude.{◌≡◌, ℕ, ◌-◌, ◌<◌, Bool, true, false, cond, not, ◌||◌, ◌&&◌, List, [], ◌∷◌, length, drop, Option, Some, None, refl, ap}
+use Rattle.tree_remove.proofs.Prelude.{◌∙◌, sym, arith, nat_eq, nat_lt, is_some, length-drop, false≢true, or_right, nat_tests, ◌==◌, filter_map, list_any}
+use Rattle.tree_remove.proofs.Prelude.{starts_with, cons_option, get, keys, contains_key-keys, eq_by_cmp, pointwise, path_cmp, is_within, is_under, front}
+use Rattle.tree_remove.proofs.Prelude.{path_cmp_ties, Files, names_in, name_below, at_and_under, HasUnder, get_at, at_itself}
 
 -- a path with a name below another, among some paths
 pub record Named (p : List ℕ) (qs : List (List ℕ)) : Type 0 where

@@ -1,29 +1,15 @@
 -- What became of one chosen path, by the deed that was done there from the bottom up.
-use Rattle.std.proofs.Common.{◌≡◌, ◌≢◌, ◌⊎◌, inl, inr, ℕ, ◌<◌, Bool, true, false, cond, List, length, Option, Some, None, refl, ap, ◌∙◌, sym, subst}
-use Rattle.std.proofs.Common.{arith, is_some, is_none}
-use Rattle.std.proofs.lemmas.Bool.{false≢true}
-use Rattle.std.specs.FinMap.{get}
-use Rattle.path_text.specs.Order.{is_under}
-use Rattle.path_text.specs.Path.{refusal}
-use Rattle.outside.specs.Tree.{Files, Node, Body, dir, file, link, other, is_dir, is_dir_body, far_at, far_of, names_in}
-use Rattle.outside.specs.Writes.{remove_dir_refusal, remove_file_refusal}
+use Rattle.tree_remove.proofs.Prelude.{◌≡◌, ◌≢◌, ◌⊎◌, inl, inr, ℕ, ◌<◌, Bool, true, false, cond, List, length, Option, Some, None, refl, ap, ◌∙◌, sym, subst}
+use Rattle.tree_remove.proofs.Prelude.{arith, is_some, is_none, false≢true, get, is_under, refusal, Files, Node, Body, dir, file, link, other, is_dir}
+use Rattle.tree_remove.proofs.Prelude.{is_dir_body, far_at, far_of, names_in, remove_dir_refusal, remove_file_refusal, is_of, at_and_under, found, left, Item}
+use Rattle.tree_remove.proofs.Prelude.{Fate, Removal, WasChosen, HasUnder, NothingUnder, get_here, get_with, at_itself}
 use Rattle.outside.specs.declared.plots.WriteError.TheVariants as write
 use Rattle.outside.specs.declared.trees.Kind.TheVariants as kind
-use Rattle.entry_pages.specs.Entries.{is_of}
-use Rattle.level_work.specs.Acts.{at_and_under}
-use Rattle.level_work.specs.Levels.{found, left}
-use Rattle.level_work.specs.declared.items.Item.{Item}
-use Rattle.level_work.specs.declared.items.Fate.{Fate}
 use Rattle.level_work.specs.declared.items.Fate.TheVariants as fate
 use Rattle.level_work.specs.declared.items.Order.TheVariants as order
-use Rattle.tree_remove.specs.PrivateDeeds.{Removal}
-use Rattle.tree_remove.specs.Removing.{WasChosen, HasUnder, NothingUnder}
 use Rattle.tree_remove.proofs.Answers.{IsOdd, dir_goes, dir_full, file_full, dir_odd, file_odd, no_far, far_or_some}
 use Rattle.tree_remove.proofs.Frames.{removed_here}
 use Rattle.tree_remove.proofs.Names.{some_under}
-use Rattle.level_work.proofs.Frames.{get_here}
-use Rattle.level_work.proofs.Stages.{get_with}
-use Rattle.outside.proofs.Saved.{at_itself}
 
 -- all that a path is under is a directory
 abbrev pub AreUnderDirs : Files → Type 0

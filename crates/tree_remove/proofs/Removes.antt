@@ -1,29 +1,12 @@
 -- Work from the bottom up by removals removes what was chosen and nothing else.
-use Rattle.std.proofs.Common.{◌≡◌, ◌≢◌, ℕ, zero, suc, ◌+◌, ◌<◌, ◌≤◌, ◌-◌, ◌^◌, Bool, true, false, ◌||◌, List, [], ◌∷◌, map, length, Option, Some}
-use Rattle.std.proofs.Common.{None, IfSome, refl, ap, ◌∙◌, sym, subst, arith, nat_eq, slice_get, get_or, min, nat_lt}
-use Rattle.std.proofs.lemmas.List.{length-map, get_or-map}
-use Rattle.std.proofs.lemmas.Bool.Decides.{nat_tests}
-use Rattle.std.proofs.lemmas.List.Sums.{sum-map, sum_by-cons}
-use Rattle.std.proofs.lemmas.Option.{slice_get-get_or}
-use Rattle.std.proofs.lemmas.Slice.Zip.{firsts-zip, length-zip, get_or-zip}
-use Rattle.std.specs.Prelude.{sum}
-use Rattle.std.specs.List.{All, zip, list_any}
-use Rattle.std.specs.Cmp.Lexicographic.{pointwise}
-use Rattle.path_text.specs.Path.{refusal}
-use Rattle.outside.specs.Count.{RoseBy}
-use Rattle.outside.specs.Parts.{IsTreeIn, UnderDirectories}
-use Rattle.outside.specs.Tree.{Files, IsTree}
-use Rattle.outside.specs.Writes.{nothing_lent}
-use Rattle.entry_pages.specs.declared.entries.Entry.{Entry}
-use Rattle.flat_list.specs.Spelling.{paths}
-use Rattle.level_work.specs.Counts.{BlamedAll, NoneAtEnd}
-use Rattle.level_work.specs.Levels.{Acted, AreItems, ParentsFail, SameButItems, StandIn, is_item}
-use Rattle.level_work.specs.declared.items.Item.{Item}
-use Rattle.level_work.specs.declared.items.Fate.{Fate}
+use Rattle.tree_remove.proofs.Prelude.{◌≡◌, ◌≢◌, ℕ, zero, suc, ◌+◌, ◌<◌, ◌≤◌, ◌-◌, ◌^◌, Bool, true, false, ◌||◌, List, [], ◌∷◌, map, length, Option, Some, None}
+use Rattle.tree_remove.proofs.Prelude.{IfSome, refl, ap, ◌∙◌, sym, subst, arith, nat_eq, slice_get, get_or, min, nat_lt, length-map, get_or-map, nat_tests}
+use Rattle.tree_remove.proofs.Prelude.{sum-map, sum_by-cons, slice_get-get_or, firsts-zip, length-zip, get_or-zip, sum, All, zip, list_any, pointwise, refusal}
+use Rattle.tree_remove.proofs.Prelude.{RoseBy, IsTreeIn, UnderDirectories, Files, IsTree, nothing_lent, Entry, paths, BlamedAll, NoneAtEnd, Acted, AreItems}
+use Rattle.tree_remove.proofs.Prelude.{ParentsFail, SameButItems, StandIn, is_item, Item, Fate, Removal, items_of, AreChosen, AreThere, Removed, SameButChosen}
+use Rattle.tree_remove.proofs.Prelude.{WasChosen}
 use Rattle.level_work.specs.declared.items.Fate.TheVariants as fate
 use Rattle.level_work.specs.declared.items.Order.TheVariants as order
-use Rattle.tree_remove.specs.PrivateDeeds.{Removal, items_of}
-use Rattle.tree_remove.specs.Removing.{AreChosen, AreThere, Removed, SameButChosen, WasChosen}
 use Rattle.tree_remove.proofs.Chosen.{are_items, stand_in, stands}
 use Rattle.tree_remove.proofs.Removal.{AreUnderDirs, was_chosen}
 

@@ -1,11 +1,6 @@
 -- Paths with their fates, row by row.
-use Rattle.std.proofs.Common.{◌≡◌, ℕ, zero, suc, ◌+◌, Bool, cond, List, [], ◌∷◌, ◌++◌, map, length, drop, Some, refl, ap, ◌∙◌, sym, arith, slice_get}
-use Rattle.std.proofs.Common.{append_assoc, append-nil, length-append}
-use Rattle.std.proofs.lemmas.List.{length-map}
-use Rattle.std.proofs.lemmas.List.Sums.{sum_by-cons}
-use Rattle.std.specs.List.{zip, count_by}
-use Rattle.level_work.specs.declared.items.Item.{Item}
-use Rattle.level_work.specs.declared.items.Fate.{Fate}
+use Rattle.tree_remove.proofs.Prelude.{◌≡◌, ℕ, zero, suc, ◌+◌, Bool, cond, List, [], ◌∷◌, ◌++◌, map, length, drop, Some, refl, ap, ◌∙◌, sym, arith, slice_get}
+use Rattle.tree_remove.proofs.Prelude.{append_assoc, append-nil, length-append, length-map, sum_by-cons, zip, count_by, Item, Fate}
 
 abbrev pub Row : Type 0
 Row = List ℕ × Fate

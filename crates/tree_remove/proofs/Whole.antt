@@ -1,21 +1,9 @@
 -- Each chosen path goes, where all that stands under it is chosen and no removal failed.
-use Rattle.std.proofs.Common.{◌≡◌, ⊎_elim, ℕ, zero, suc, ◌+◌, ◌<◌, ◌≤◌, Bool, true, false, cond, ◌||◌, ◌&&◌, List, [], ◌∷◌, ◌++◌, length, map}
-use Rattle.std.proofs.Common.{refl, ap, ◌∙◌, sym, arith, nat_eq, nat_lt, is_some, get_or, length-append}
-use Rattle.std.proofs.lemmas.Bool.{false≢true, or_left, or_right}
-use Rattle.std.proofs.lemmas.Bool.Decides.{nat_tests}
-use Rattle.std.proofs.lemmas.List.Elements.{All-from_recursion}
-use Rattle.std.specs.Prelude.{◌==◌}
-use Rattle.std.specs.FinMap.{get}
-use Rattle.std.specs.List.{All, AllByRecursion, list_any}
-use Rattle.std.specs.Cmp.Lexicographic.{pointwise, bytes_decides}
-use Rattle.path_text.specs.Order.{is_under, front}
-use Rattle.outside.specs.Tree.{Files, far_at}
-use Rattle.level_work.specs.Counts.{is_failed}
-use Rattle.level_work.specs.declared.items.Fate.{Fate}
+use Rattle.tree_remove.proofs.Prelude.{◌≡◌, ⊎_elim, ℕ, zero, suc, ◌+◌, ◌<◌, ◌≤◌, Bool, true, false, cond, ◌||◌, ◌&&◌, List, [], ◌∷◌, ◌++◌, length, map, refl}
+use Rattle.tree_remove.proofs.Prelude.{ap, ◌∙◌, sym, arith, nat_eq, nat_lt, is_some, get_or, length-append, false≢true, or_left, or_right, nat_tests}
+use Rattle.tree_remove.proofs.Prelude.{All-from_recursion, ◌==◌, get, All, AllByRecursion, list_any, pointwise, bytes_decides, is_under, front, Files, far_at}
+use Rattle.tree_remove.proofs.Prelude.{is_failed, Fate, unfailed, AreWhole, WholeChoicesGo, Removed, WasChosen, HasUnder}
 use Rattle.level_work.specs.declared.items.Fate.TheVariants as fate
-use Rattle.level_work.proofs.Unfailed.{unfailed}
-use Rattle.tree_remove.specs.Laws.{AreWhole, WholeChoicesGo}
-use Rattle.tree_remove.specs.Removing.{Removed, WasChosen, HasUnder}
 
 abbrev Row : Type 0
 Row = List ℕ × Fate

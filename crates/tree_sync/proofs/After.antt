@@ -1,32 +1,13 @@
 -- A comparison after a sync shows no difference where both sides have alike nodes.
-use Rattle.std.proofs.Common.{◌≡◌, ℕ, Bool, true, false, not, cond, ◌||◌, ◌&&◌, List, ◌++◌, length, Option, Some, None, IfSome}
-use Rattle.std.proofs.Common.{refl, ap, ◌∙◌, sym}
-use Rattle.std.proofs.Common.{subst, arith, nat_eq, is_some}
-use Rattle.std.specs.Prelude.{◌==◌}
-use Rattle.std.specs.FinMap.{get}
-use Rattle.std.specs.List.{Contains}
-use Rattle.std.specs.Cmp.Lexicographic.{pointwise, bytes_decides}
-use Rattle.std.proofs.lemmas.Bool.{false≢true, and_parts}
-use Rattle.std.proofs.lemmas.Bool.Decides.{nat_tests}
-use Rattle.std.proofs.lemmas.List.Elements.{All-contains}
-use Rattle.path_text.specs.Graft.{below_of, grafted}
-use Rattle.path_text.specs.Order.{is_within}
-use Rattle.path_text.specs.Path.{refusal}
-use Rattle.path_text.proofs.Parts.{below_made}
-use Rattle.outside.specs.Tree.{Files, Node, Body, dir, file, link, other, IsTree, NodesHavePaths, bytes_of, content, kind_of, link_at, size_of}
+use Rattle.tree_sync.proofs.Prelude.{◌≡◌, ℕ, Bool, true, false, not, cond, ◌||◌, ◌&&◌, List, ◌++◌, length, Option, Some, None, IfSome, refl, ap, ◌∙◌, sym}
+use Rattle.tree_sync.proofs.Prelude.{subst, arith, nat_eq, is_some, ◌==◌, get, Contains, pointwise, bytes_decides, false≢true, and_parts, nat_tests}
+use Rattle.tree_sync.proofs.Prelude.{All-contains, below_of, grafted, is_within, refusal, below_made, Files, Node, Body, dir, file, link, other, IsTree}
+use Rattle.tree_sync.proofs.Prelude.{NodesHavePaths, bytes_of, content, kind_of, link_at, size_of, Stat, Entry, is_kind, Two, Row, Findings, IsContent, IsRow}
+use Rattle.tree_sync.proofs.Prelude.{are_files, are_links, is_missed, is_read, kinds, same_bytes, sizes, stat_at, texts, two_of, Side, side, entry_at, is_gone}
+use Rattle.tree_sync.proofs.Prelude.{is_hidden, Pair, AgreesAfter, AreAlike, IsEqual, IsFullList, MayHaveMore, WasCompared, is_both, is_common, is_differ}
+use Rattle.tree_sync.proofs.Prelude.{is_only_dest}
 use Rattle.outside.specs.declared.trees.Kind.TheVariants as kind
-use Rattle.outside.specs.declared.trees.Stat.{Stat}
-use Rattle.entry_pages.specs.declared.entries.Entry.{Entry}
-use Rattle.entry_pages.specs.Entries.{is_kind}
-use Rattle.tree_cmp.specs.declared.rows.Two.{Two}
 use Rattle.tree_cmp.specs.declared.rows.Two.TheVariants as two
-use Rattle.tree_cmp.specs.declared.rows.Row.{Row}
-use Rattle.tree_cmp.specs.Rows.{Findings, IsContent, IsRow, are_files, are_links, is_missed, is_read, kinds, same_bytes, sizes, stat_at}
-use Rattle.tree_cmp.specs.Rows.{texts, two_of}
-use Rattle.tree_cmp.specs.Sides.{Side, side, entry_at, is_gone, is_hidden}
-use Rattle.tree_copy.specs.declared.pairs.Pair.{Pair}
-use Rattle.tree_sync.specs.Laws.{AgreesAfter, AreAlike, IsEqual, IsFullList, MayHaveMore, WasCompared}
-use Rattle.tree_sync.specs.Syncing.{is_both, is_common, is_differ, is_only_dest}
 use Rattle.tree_sync.proofs.Alike.{file_size}
 use Rattle.tree_sync.proofs.Both.{kind_is}
 use Rattle.tree_sync.proofs.Members.{some_on}

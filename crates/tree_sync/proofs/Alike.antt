@@ -1,21 +1,10 @@
 -- Nodes that are alike: by their kinds, and as copies.
-use Rattle.std.proofs.Common.{◌≡◌, ◌⊎◌, inl, inr, ℕ, Bool, true, false, not, cond, List, [], length, Option, Some, None, refl, ap}
-use Rattle.std.proofs.Common.{◌∙◌, sym}
-use Rattle.std.proofs.Common.{is_some}
-use Rattle.std.specs.Prelude.{nat_lt}
-use Rattle.std.specs.FinMap.{get}
-use Rattle.std.proofs.lemmas.Bool.{false≢true, not-false}
-use Rattle.outside.specs.Tree.{Files, Node, Body, dir, file, link, other, bytes_of, content, kind_of, link_at, size_of, text_of}
-use Rattle.outside.specs.declared.trees.Kind.{Kind}
+use Rattle.tree_sync.proofs.Prelude.{◌≡◌, ◌⊎◌, inl, inr, ℕ, Bool, true, false, not, cond, List, [], length, Option, Some, None, refl, ap, ◌∙◌, sym, is_some}
+use Rattle.tree_sync.proofs.Prelude.{nat_lt, get, false≢true, not-false, Files, Node, Body, dir, file, link, other, bytes_of, content, kind_of, link_at}
+use Rattle.tree_sync.proofs.Prelude.{size_of, text_of, Kind, Stat, Entry, is_kind, is_of, Fate, Pair, IsCopied, IsCopyOf, body_of, clashes, due, is_untold}
+use Rattle.tree_sync.proofs.Prelude.{or_else, parent_failed, target_of, AreAlike}
 use Rattle.outside.specs.declared.trees.Kind.TheVariants as kind
-use Rattle.outside.specs.declared.trees.Stat.{Stat}
-use Rattle.entry_pages.specs.declared.entries.Entry.{Entry}
-use Rattle.entry_pages.specs.Entries.{is_kind, is_of}
-use Rattle.level_work.specs.declared.items.Fate.{Fate}
 use Rattle.level_work.specs.declared.items.Fate.TheVariants as fate
-use Rattle.tree_copy.specs.declared.pairs.Pair.{Pair}
-use Rattle.tree_copy.specs.Copying.{IsCopied, IsCopyOf, body_of, clashes, due, is_untold, or_else, parent_failed, target_of}
-use Rattle.tree_sync.specs.Laws.{AreAlike}
 use Rattle.tree_sync.proofs.Both.{kind_eq}
 
 -- a body is of one kind alone

@@ -1,42 +1,15 @@
 -- The two sides are apart: no path within the source is within the target. So no path off the target is removed or written.
-use Rattle.std.proofs.Common.{◌≡◌, ⊎_elim, ℕ, Bool, true, false, cond, ◌||◌, ◌&&◌, List, [], ◌∷◌, filter, Option, Some}
-use Rattle.std.proofs.Common.{None, IfSome}
-use Rattle.std.proofs.Common.{refl, ap, ◌∙◌, sym, subst, arith, nat_eq, is_some}
-use Rattle.std.specs.Prelude.{IsTrue}
-use Rattle.std.specs.FinMap.{get}
-use Rattle.std.specs.List.{All, list_any}
+use Rattle.tree_sync.proofs.Prelude.{◌≡◌, ⊎_elim, ℕ, Bool, true, false, cond, ◌||◌, ◌&&◌, List, [], ◌∷◌, filter, Option, Some, None, IfSome, refl, ap, ◌∙◌, sym}
+use Rattle.tree_sync.proofs.Prelude.{subst, arith, nat_eq, is_some, IsTrue, get, All, list_any, option_map, pointwise, bytes_decides, false≢true}
+use Rattle.tree_sync.proofs.Prelude.{false_from_ne_true, or_parts, or_left, and_parts, All-filter, All-map, list_any_none, below_of, grafted, path_cmp}
+use Rattle.tree_sync.proofs.Prelude.{is_within, refusal, parent_of, below_undoes_graft, parent_under, below_made, same_or_under, tops_are_nested, under_longer}
+use Rattle.tree_sync.proofs.Prelude.{under_no_root, within_longer, within_root, Files, Node, IsTree, NodesHavePaths, is_root, kind_of, stat_of, Stat, Entry}
+use Rattle.tree_sync.proofs.Prelude.{paths, Exist, Two, Row, StatsTold, side, AreChosen, AreThere, SameButChosen, Pair, CanCopy, SameButTargets, is_target}
+use Rattle.tree_sync.proofs.Prelude.{target_of, targets_of, treated, overlap, Known, AreTold, SameOutside, chosen_of, copied_of, is_both, is_chosen, is_common}
+use Rattle.tree_sync.proofs.Prelude.{is_copied, is_differ, is_foreign, is_only_dest, is_there, row_at}
 use Rattle.std.specs.List.Sorted.{IsStrictlySortedBy}
-use Rattle.std.specs.Option.{option_map}
-use Rattle.std.specs.Cmp.Lexicographic.{pointwise, bytes_decides}
-use Rattle.std.proofs.lemmas.Bool.{false≢true, false_from_ne_true, or_parts, or_left, and_parts}
-use Rattle.std.proofs.lemmas.List.Elements.{All-filter, All-map}
-use Rattle.std.proofs.lemmas.List.Folds.{list_any_none}
-use Rattle.path_text.specs.Graft.{below_of, grafted}
-use Rattle.path_text.specs.Order.{path_cmp, is_within}
-use Rattle.path_text.specs.Path.{refusal, parent_of}
-use Rattle.path_text.proofs.Moved.{below_undoes_graft}
-use Rattle.path_text.proofs.Parents.{parent_under}
-use Rattle.path_text.proofs.Parts.{below_made}
-use Rattle.path_text.proofs.Within.{same_or_under, tops_are_nested, under_longer, under_no_root, within_longer, within_root}
-use Rattle.outside.specs.Tree.{Files, Node, IsTree, NodesHavePaths, is_root, kind_of, stat_of}
-use Rattle.outside.specs.declared.trees.Stat.{Stat}
-use Rattle.entry_pages.specs.declared.entries.Entry.{Entry}
-use Rattle.flat_list.specs.Spelling.{paths}
-use Rattle.tree_cmp.specs.declared.rows.Exist.{Exist}
 use Rattle.tree_cmp.specs.declared.rows.Exist.TheVariants as exist
-use Rattle.tree_cmp.specs.declared.rows.Two.{Two}
 use Rattle.tree_cmp.specs.declared.rows.Two.TheVariants as two
-use Rattle.tree_cmp.specs.declared.rows.Row.{Row}
-use Rattle.tree_cmp.specs.Readers.{StatsTold}
-use Rattle.tree_cmp.specs.Sides.{side}
-use Rattle.tree_remove.specs.Removing.{AreChosen, AreThere, SameButChosen}
-use Rattle.tree_copy.specs.declared.pairs.Pair.{Pair}
-use Rattle.tree_copy.specs.Copying.{CanCopy, SameButTargets, is_target, target_of, targets_of, treated}
-use Rattle.tree_copy.specs.Placing.{overlap}
-use Rattle.tree_sync.specs.PrivateSteps.{Known}
-use Rattle.tree_sync.specs.Syncing.{AreTold, SameOutside, chosen_of, copied_of, is_both, is_chosen, is_common, is_copied, is_differ}
-use Rattle.tree_sync.specs.Syncing.{is_foreign}
-use Rattle.tree_sync.specs.Syncing.{is_only_dest, is_there, row_at}
 use Rattle.tree_sync.proofs.Kept.{kept_ascends}
 use Rattle.tree_sync.proofs.Members.{of_kept}
 use Rattle.tree_sync.proofs.Sided.{IsTold, StatTold, all_told, valid_of}

@@ -1,26 +1,9 @@
 -- A row that says that both sides have its path as one kind: the nodes of both sides, and that the removal leaves the destination's.
-use Rattle.std.proofs.Common.{◌≡◌, ℕ, Bool, true, false, List, ◌++◌, Option, Some, None, refl, ap, ◌∙◌, sym, subst, nat_eq}
-use Rattle.std.specs.FinMap.{get}
-use Rattle.std.specs.Cmp.Lexicographic.{pointwise, bytes_decides}
-use Rattle.std.proofs.lemmas.Bool.{false≢true}
-use Rattle.std.proofs.lemmas.List.Elements.{All-contains}
-use Rattle.path_text.specs.Graft.{grafted}
-use Rattle.path_text.specs.Path.{refusal}
-use Rattle.path_text.proofs.Moved.{below_undoes_graft}
-use Rattle.outside.specs.Tree.{Files}
-use Rattle.outside.specs.declared.trees.Kind.{Kind}
+use Rattle.tree_sync.proofs.Prelude.{◌≡◌, ℕ, Bool, true, false, List, ◌++◌, Option, Some, None, refl, ap, ◌∙◌, sym, subst, nat_eq, get, pointwise}
+use Rattle.tree_sync.proofs.Prelude.{bytes_decides, false≢true, All-contains, grafted, refusal, below_undoes_graft, Files, Kind, Stat, Entry, is_kind, paths}
+use Rattle.tree_sync.proofs.Prelude.{Row, Findings, IsComparison, IsRow, is_missed, kinds, stat_at, two_of, Side, side, entry_at, SameButChosen, Pair, Known}
+use Rattle.tree_sync.proofs.Prelude.{FitsSync, chosen_of, is_both, is_common, row_at}
 use Rattle.outside.specs.declared.trees.Kind.TheVariants as kind
-use Rattle.outside.specs.declared.trees.Stat.{Stat}
-use Rattle.entry_pages.specs.declared.entries.Entry.{Entry}
-use Rattle.entry_pages.specs.Entries.{is_kind}
-use Rattle.flat_list.specs.Spelling.{paths}
-use Rattle.tree_cmp.specs.declared.rows.Row.{Row}
-use Rattle.tree_cmp.specs.Rows.{Findings, IsComparison, IsRow, is_missed, kinds, stat_at, two_of}
-use Rattle.tree_cmp.specs.Sides.{Side, side, entry_at}
-use Rattle.tree_remove.specs.Removing.{SameButChosen}
-use Rattle.tree_copy.specs.declared.pairs.Pair.{Pair}
-use Rattle.tree_sync.specs.PrivateSteps.{Known}
-use Rattle.tree_sync.specs.Syncing.{FitsSync, chosen_of, is_both, is_common, row_at}
 use Rattle.tree_sync.proofs.Apart.{kept_not_chosen}
 use Rattle.tree_sync.proofs.Members.{found_by}
 use Rattle.tree_sync.proofs.Sided.{Has, Stands, has_at, has_node}

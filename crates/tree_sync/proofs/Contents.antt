@@ -1,22 +1,9 @@
 -- The content of a row of two entries, by their kind.
-use Rattle.std.proofs.Common.{◌≡◌, ℕ, Bool, true, false, not, cond, ◌&&◌, List, [], ◌∷◌, length, Option, Some, None, refl, ap, ◌∙◌, sym}
-use Rattle.std.proofs.Common.{arith, nat_eq}
-use Rattle.std.specs.Prelude.{◌==◌}
-use Rattle.std.specs.FinMap.{get}
-use Rattle.std.specs.Cmp.Lexicographic.{pointwise, bytes_decides}
-use Rattle.std.proofs.lemmas.Bool.{false≢true}
-use Rattle.outside.specs.Tree.{Files, content}
-use Rattle.outside.specs.declared.trees.Kind.{Kind}
+use Rattle.tree_sync.proofs.Prelude.{◌≡◌, ℕ, Bool, true, false, not, cond, ◌&&◌, List, [], ◌∷◌, length, Option, Some, None, refl, ap, ◌∙◌, sym, arith, nat_eq}
+use Rattle.tree_sync.proofs.Prelude.{◌==◌, get, pointwise, bytes_decides, false≢true, Files, content, Kind, Stat, Entry, is_kind, Two, IsContent, are_files}
+use Rattle.tree_sync.proofs.Prelude.{are_links, is_read, same_bytes, sizes, texts, two_of, is_common, same_number, no_far}
 use Rattle.outside.specs.declared.trees.Kind.TheVariants as kind
-use Rattle.outside.specs.declared.trees.Stat.{Stat}
-use Rattle.entry_pages.specs.declared.entries.Entry.{Entry}
-use Rattle.entry_pages.specs.Entries.{is_kind}
-use Rattle.tree_cmp.specs.declared.rows.Two.{Two}
 use Rattle.tree_cmp.specs.declared.rows.Two.TheVariants as two
-use Rattle.tree_cmp.specs.Rows.{IsContent, are_files, are_links, is_read, same_bytes, sizes, texts, two_of}
-use Rattle.tree_sync.specs.Syncing.{is_common}
-use Rattle.tree_cmp.proofs.OneRow.{same_number}
-use Rattle.tree_remove.proofs.Answers.{no_far}
 
 common_of : (b : Bool) → is_common (two_of b) ≡ true → b ≡ true
 common_of true e = refl

@@ -1,18 +1,7 @@
 -- One pass over the entries of a list, beside a search for a path that is at or over that of an entry.
-use Rattle.std.proofs.Common.{◌≡◌, ℕ, ◌+◌, ◌≤◌, Bool, List, [], ◌∷◌, ◌++◌, length, take, get_or, cond}
-use Rattle.std.proofs.Common.{true, false, filter, None, ap, sym, ◌∙◌, subst, arith, length-append}
-use Rattle.std.specs.Prelude.{IsTrue}
-use Rattle.std.specs.List.{All}
-use Rattle.std.specs.List.Sorted.{IsStrictlySortedBy}
-use Rattle.std.proofs.lemmas.List.Elements.{filter-append}
-use Rattle.path_text.specs.Graft.{below_of, BelowKeepsOrder}
-use Rattle.path_text.specs.Order.{path_cmp, is_within, UnderIsContiguous}
-use Rattle.path_text.specs.Path.{refusal}
-use Rattle.entry_pages.specs.declared.entries.Entry.{Entry}
-use Rattle.flat_list.specs.Spelling.{paths}
-use Rattle.tree_cmp.specs.Passes.{IsNext}
-use Rattle.tree_cmp.proofs.Passing.{IsHere, follow_below, step, taken}
-use Rattle.tree_sync.specs.PrivateSearch.{IsCleared}
+use Rattle.tree_sync.proofs.Prelude.{◌≡◌, ℕ, ◌+◌, ◌≤◌, Bool, List, [], ◌∷◌, ◌++◌, length, take, get_or, cond, true, false, filter, None, ap, sym, ◌∙◌, subst}
+use Rattle.tree_sync.proofs.Prelude.{arith, length-append, IsTrue, All, IsStrictlySortedBy, filter-append, below_of, BelowKeepsOrder, path_cmp, is_within}
+use Rattle.tree_sync.proofs.Prelude.{UnderIsContiguous, refusal, Entry, paths, IsNext, IsHere, follow_below, step, taken, IsCleared}
 use Rattle.tree_sync.proofs.Passed.{cleared_later}
 
 abbrev below_top : List ℕ → Entry → List ℕ

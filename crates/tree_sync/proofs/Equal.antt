@@ -1,41 +1,16 @@
 -- At each path that is not named, the destination has the like of the source's node.
-use Rattle.std.proofs.Common.{◌≡◌, ℕ, Bool, true, false, not, cond, ◌||◌, ◌&&◌, List, [], ◌∷◌, ◌++◌, map, length, filter, Option, Some, None}
-use Rattle.std.proofs.Common.{refl, ap, ◌∙◌, sym, subst, arith, nat_eq, is_some}
-use Rattle.std.specs.Prelude.{◌==◌}
-use Rattle.std.specs.FinMap.{get}
-use Rattle.std.specs.List.{All, Contains, list_any, zip}
-use Rattle.std.specs.Option.{option_map}
-use Rattle.std.specs.Cmp.Lexicographic.{pointwise, bytes_decides}
-use Rattle.std.proofs.lemmas.Bool.{false≢true, false_from_ne_true, and_parts, and_from, or_left, or_right}
-use Rattle.std.proofs.lemmas.List.Elements.{All-contains, recursion_from_All}
-use Rattle.std.proofs.lemmas.List.Folds.{Any-from_list_any}
-use Rattle.path_text.specs.Graft.{below_of, grafted}
-use Rattle.path_text.specs.Order.{is_within}
-use Rattle.path_text.specs.Path.{refusal}
-use Rattle.path_text.proofs.Moved.{below_undoes_graft}
-use Rattle.path_text.proofs.Parts.{below_made, graft_undoes_below}
-use Rattle.path_text.proofs.Within.{itself}
-use Rattle.outside.specs.Tree.{Files, Node, NodesHavePaths, bytes_of, content, kind_of, link_at, stat_of, text_of}
-use Rattle.outside.specs.declared.trees.Kind.{Kind}
+use Rattle.tree_sync.proofs.Prelude.{◌≡◌, ℕ, Bool, true, false, not, cond, ◌||◌, ◌&&◌, List, [], ◌∷◌, ◌++◌, map, length, filter, Option, Some, None, refl, ap}
+use Rattle.tree_sync.proofs.Prelude.{◌∙◌, sym, subst, arith, nat_eq, is_some, ◌==◌, get, All, Contains, list_any, zip, option_map, pointwise, bytes_decides}
+use Rattle.tree_sync.proofs.Prelude.{false≢true, false_from_ne_true, and_parts, and_from, or_left, or_right, All-contains, recursion_from_All}
+use Rattle.tree_sync.proofs.Prelude.{Any-from_list_any, below_of, grafted, is_within, refusal, below_undoes_graft, below_made, graft_undoes_below, itself}
+use Rattle.tree_sync.proofs.Prelude.{Files, Node, NodesHavePaths, bytes_of, content, kind_of, link_at, stat_of, text_of, Kind, Stat, Entry, is_of, is_kind}
+use Rattle.tree_sync.proofs.Prelude.{is_fine, paths, Fate, Row, Findings, IsContent, exist_of, is_missed, stat_at, Side, side, entry_at, is_gone, is_hidden}
+use Rattle.tree_sync.proofs.Prelude.{SameButChosen, WasChosen, Pair, IsCopied, IsCopyOf, clashes, is_target, target_of, treated, Known, AreAlike, IsEqual}
+use Rattle.tree_sync.proofs.Prelude.{MayHaveMore, WasSynced, below_top, is_noted, noted, Results, AreCopied, AreRemoved, agrees, chosen_of, copied_of}
+use Rattle.tree_sync.proofs.Prelude.{has_other, is_chosen, is_common, is_copied, is_differ, is_foreign, is_masked, is_only_dest, is_there, row_at, some_same}
+use Rattle.tree_sync.proofs.Prelude.{none_some}
 use Rattle.outside.specs.declared.trees.Kind.TheVariants as kind
-use Rattle.outside.specs.declared.trees.Stat.{Stat}
-use Rattle.entry_pages.specs.declared.entries.Entry.{Entry}
-use Rattle.entry_pages.specs.Entries.{is_of, is_kind, is_fine}
-use Rattle.flat_list.specs.Spelling.{paths}
-use Rattle.level_work.specs.declared.items.Fate.{Fate}
 use Rattle.level_work.specs.declared.items.Fate.TheVariants as fate
-use Rattle.tree_cmp.specs.declared.rows.Row.{Row}
-use Rattle.tree_cmp.specs.Rows.{Findings, IsContent, exist_of, is_missed, stat_at}
-use Rattle.tree_cmp.specs.Sides.{Side, side, entry_at, is_gone, is_hidden}
-use Rattle.tree_remove.specs.Removing.{SameButChosen, WasChosen}
-use Rattle.tree_copy.specs.declared.pairs.Pair.{Pair}
-use Rattle.tree_copy.specs.Copying.{IsCopied, IsCopyOf, clashes, is_target, target_of, treated}
-use Rattle.tree_sync.specs.PrivateSteps.{Known}
-use Rattle.tree_sync.specs.Laws.{AreAlike, IsEqual, MayHaveMore, WasSynced, below_top, is_noted, noted}
-use Rattle.tree_sync.specs.Results.{Results}
-use Rattle.tree_sync.specs.Syncing.{AreCopied, AreRemoved, agrees, chosen_of, copied_of, has_other, is_chosen, is_common, is_copied}
-use Rattle.tree_sync.specs.Syncing.{is_differ}
-use Rattle.tree_sync.specs.Syncing.{is_foreign, is_masked, is_only_dest, is_there, row_at}
 use Rattle.tree_sync.proofs.Alike.{CopyAt, alike_by, copy_alike, file_size, free_of}
 use Rattle.tree_sync.proofs.Apart.{goes_to, none_goes, not_chosen, outside_copied, source_off}
 use Rattle.tree_sync.proofs.Both.{HaveBoth, Removal, Says, have_both, kind_eq, row_says}
@@ -44,7 +19,6 @@ use Rattle.tree_sync.proofs.Fits.{agreed}
 use Rattle.tree_sync.proofs.Members.{in_kept, in_map, next, of_kept, one_off, some_on}
 use Rattle.tree_sync.proofs.Named.{NotNamed, RowAt, fate_in, not_hidden, row_there}
 use Rattle.tree_sync.proofs.Sided.{Has, HasEntry, IsTold, Stands, TextTold, all_told, entry_of, has_at, has_node, if_some, some_of, stands_at, valid_of}
-use Rattle.tree_cmp.proofs.Passing.{some_same, none_some}
 
 -- a path that a test of the paths finds is in a row
 path_in : (q : List ℕ) (rows : List (List ℕ × Fate)) → list_any (pointwise nat_eq q) (map (λ row. row.0) rows) ≡ true →

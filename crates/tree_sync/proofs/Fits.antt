@@ -1,31 +1,12 @@
 -- The wanting entries fit the tree that the removal left: they tell it, and each target stands in a directory, or in a target.
-use Rattle.std.proofs.Common.{◌≡◌, ℕ, Bool, true, false, not, cond, ◌||◌, ◌&&◌, List, [], ◌∷◌, filter, Option, Some, None, IfSome, refl}
-use Rattle.std.proofs.Common.{ap, ◌∙◌, sym}
-use Rattle.std.proofs.Common.{subst, arith, nat_eq, is_some}
-use Rattle.std.specs.FinMap.{get}
-use Rattle.std.specs.List.{All, Contains}
-use Rattle.std.specs.Option.{option_map}
-use Rattle.std.specs.Cmp.Lexicographic.{pointwise, bytes_decides}
-use Rattle.std.proofs.lemmas.Bool.{false≢true, and_parts, and_from}
-use Rattle.std.proofs.lemmas.List.Elements.{All-contains, All-filter}
-use Rattle.std.proofs.lemmas.List.Folds.{Any-from_list_any}
-use Rattle.path_text.specs.Graft.{below_of, grafted}
-use Rattle.path_text.specs.Order.{is_under, is_within}
-use Rattle.path_text.specs.Path.{refusal, parent_of}
-use Rattle.path_text.proofs.Carried.{grafted_itself, parent_moves_too}
-use Rattle.path_text.proofs.Parts.{below_made, graft_undoes_below}
-use Rattle.path_text.proofs.Within.{itself, under_within}
-use Rattle.outside.specs.Tree.{Files, Node, Body, dir, file, link, other, IsTree, NodesHavePaths, is_dir, is_dir_body, kind_of, link_at, stat_of}
+use Rattle.tree_sync.proofs.Prelude.{◌≡◌, ℕ, Bool, true, false, not, cond, ◌||◌, ◌&&◌, List, [], ◌∷◌, filter, Option, Some, None, IfSome, refl, ap, ◌∙◌, sym}
+use Rattle.tree_sync.proofs.Prelude.{subst, arith, nat_eq, is_some, get, All, Contains, option_map, pointwise, bytes_decides, false≢true, and_parts, and_from}
+use Rattle.tree_sync.proofs.Prelude.{All-contains, All-filter, Any-from_list_any, below_of, grafted, is_under, is_within, refusal, parent_of, grafted_itself}
+use Rattle.tree_sync.proofs.Prelude.{parent_moves_too, below_made, graft_undoes_below, itself, under_within, Files, Node, Body, dir, file, link, other, IsTree}
+use Rattle.tree_sync.proofs.Prelude.{NodesHavePaths, is_dir, is_dir_body, kind_of, link_at, stat_of, Stat, Entry, is_of, Row, Findings, Side, side, Pair}
+use Rattle.tree_sync.proofs.Prelude.{FitsTree, is_target, target_of, targets_of, treated, agrees, copied_of, has_parent, is_both, is_common, is_copied}
+use Rattle.tree_sync.proofs.Prelude.{is_there, row_at}
 use Rattle.outside.specs.declared.trees.Kind.TheVariants as kind
-use Rattle.outside.specs.declared.trees.Stat.{Stat}
-use Rattle.entry_pages.specs.declared.entries.Entry.{Entry}
-use Rattle.entry_pages.specs.Entries.{is_of}
-use Rattle.tree_cmp.specs.declared.rows.Row.{Row}
-use Rattle.tree_cmp.specs.Rows.{Findings}
-use Rattle.tree_cmp.specs.Sides.{Side, side}
-use Rattle.tree_copy.specs.declared.pairs.Pair.{Pair}
-use Rattle.tree_copy.specs.Copying.{FitsTree, is_target, target_of, targets_of, treated}
-use Rattle.tree_sync.specs.Syncing.{agrees, copied_of, has_parent, is_both, is_common, is_copied, is_there, row_at}
 use Rattle.tree_sync.proofs.Apart.{goes_to, not_chosen, over_off, source_off}
 use Rattle.tree_sync.proofs.Both.{Removal, have_both, kind_eq}
 use Rattle.tree_sync.proofs.Members.{in_kept, in_map, of_kept, some_on}

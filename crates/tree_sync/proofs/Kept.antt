@@ -1,19 +1,9 @@
 -- Filters of lists that ascend, and the paths that are masked.
-use Rattle.std.proofs.Common.{◌≡◌, ℕ, Bool, true, false, cond, ◌||◌, ◌&&◌, List, [], ◌∷◌, ◌++◌, map, filter, not, is_some, refl, ap, ◌∙◌, sym}
-use Rattle.std.specs.Prelude.{IsTrue}
-use Rattle.std.specs.List.{AllByRecursion, list_any}
+use Rattle.tree_sync.proofs.Prelude.{◌≡◌, ℕ, Bool, true, false, cond, ◌||◌, ◌&&◌, List, [], ◌∷◌, ◌++◌, map, filter, not, is_some, refl, ap, ◌∙◌, sym, IsTrue}
+use Rattle.tree_sync.proofs.Prelude.{AllByRecursion, list_any, Less, map-append, filter-append, recursion_from_All, below_of, BelowKeepsOrder, path_cmp}
+use Rattle.tree_sync.proofs.Prelude.{is_within, Entry, paths, Side, side, IsSide, Row, is_chosen_off, masks_of, has_other, is_chosen, is_foreign, is_masked}
+use Rattle.tree_sync.proofs.Prelude.{row_at}
 use Rattle.std.specs.List.Sorted.{IsStrictlySortedBy}
-use Rattle.std.specs.declared.cmp.Ordering.TheVariants.{Less}
-use Rattle.std.proofs.lemmas.List.{map-append}
-use Rattle.std.proofs.lemmas.List.Elements.{filter-append, recursion_from_All}
-use Rattle.path_text.specs.Graft.{below_of, BelowKeepsOrder}
-use Rattle.path_text.specs.Order.{path_cmp, is_within}
-use Rattle.entry_pages.specs.declared.entries.Entry.{Entry}
-use Rattle.flat_list.specs.Spelling.{paths}
-use Rattle.tree_cmp.specs.Sides.{Side, side, IsSide}
-use Rattle.tree_cmp.specs.declared.rows.Row.{Row}
-use Rattle.tree_sync.specs.PrivateSteps.{is_chosen_off, masks_of}
-use Rattle.tree_sync.specs.Syncing.{has_other, is_chosen, is_foreign, is_masked, row_at}
 
 less_kept : {X : Type 0} (key : X → List ℕ) (p : X → Bool) (x : List ℕ) (xs : List X) → AllByRecursion (λ z. path_cmp x z ≡ Less) (map key xs) →
     AllByRecursion (λ z. path_cmp x z ≡ Less) (map key (filter p xs))

@@ -1,13 +1,6 @@
 -- The laws of a sync.
-use Rattle.std.proofs.Common.{Option, Some, None, get_or}
-use Rattle.std.specs.FinMap.{get}
-use Rattle.std.proofs.lemmas.Bool.{false≢true}
-use Rattle.std.proofs.lemmas.List.{get_or_default}
-use Rattle.path_text.specs.Graft.{grafted}
-use Rattle.outside.specs.Tree.{Files, NodesHavePaths}
-use Rattle.tree_cmp.specs.Sides.{side}
-use Rattle.tree_sync.specs.Laws.{IsEqual, SyncMakesEqual, SyncedRowsAgree}
-use Rattle.tree_sync.specs.Syncing.{AreCopied, AreRemoved, chosen_of, copied_of}
+use Rattle.tree_sync.proofs.Prelude.{Option, Some, None, get_or, get, false≢true, get_or_default, grafted, Files, NodesHavePaths, side, IsEqual, SyncMakesEqual}
+use Rattle.tree_sync.proofs.Prelude.{SyncedRowsAgree, AreCopied, AreRemoved, chosen_of, copied_of}
 use Rattle.tree_sync.proofs.After.{row_agrees}
 use Rattle.tree_sync.proofs.Equal.{is_equal}
 use Rattle.tree_sync.proofs.Named.{not_named}

@@ -1,3 +1,4 @@
+mod Prelude
 mod After
 mod Alike
 mod Apart

@@ -1,11 +1,7 @@
 -- Members of a list, of a part of it, and of its image.
-use Rattle.std.proofs.Common.{◌≡◌, ℕ, zero, suc, ◌<◌, Bool, true, false, cond, List, [], ◌∷◌, length, map, filter, get_or, Some, refl}
-use Rattle.std.proofs.Common.{ap, ◌∙◌, sym, subst, arith}
-use Rattle.std.proofs.lemmas.Bool.{false≢true, false_from_ne_true}
-use Rattle.std.proofs.lemmas.List.{length-map, get_or-map}
-use Rattle.std.proofs.lemmas.List.Elements.{recursion_from_All, All-from_recursion}
-use Rattle.std.proofs.lemmas.List.Folds.{list_any_at}
-use Rattle.std.specs.List.{All, AllByRecursion, Contains, find, list_any}
+use Rattle.tree_sync.proofs.Prelude.{◌≡◌, ℕ, zero, suc, ◌<◌, Bool, true, false, cond, List, [], ◌∷◌, length, map, filter, get_or, Some, refl, ap, ◌∙◌, sym}
+use Rattle.tree_sync.proofs.Prelude.{subst, arith, false≢true, false_from_ne_true, length-map, get_or-map, recursion_from_All, All-from_recursion, list_any_at}
+use Rattle.tree_sync.proofs.Prelude.{All, AllByRecursion, Contains, find, list_any}
 
 -- an element that passes makes a test of all pass
 pub some_on : {X : Type 0} (f : X → Bool) (xs : List X) (x : X) → Contains xs x → f x ≡ true → list_any f xs ≡ true

@@ -1,31 +1,11 @@
 -- A path that is not named is not hidden, and each fate that is not named is `Done`.
-use Rattle.std.proofs.Common.{◌≡◌, ℕ, Bool, true, false, not, cond, ◌||◌, ◌&&◌, List, [], ◌∷◌, ◌++◌, map, filter, Some, refl}
-use Rattle.std.proofs.Common.{ap, ◌∙◌, sym, subst, arith}
-use Rattle.std.proofs.Common.{nat_eq, is_some, zero, suc, ◌<◌, length, get_or}
-use Rattle.std.specs.Prelude.{◌==◌}
-use Rattle.std.specs.List.{AllByRecursion, Contains, list_any, zip}
-use Rattle.std.specs.Cmp.Lexicographic.{pointwise}
-use Rattle.std.proofs.lemmas.Bool.{false≢true, and_parts, and_from, or_from, or_parts, false_from_ne_true}
-use Rattle.std.proofs.lemmas.List.Elements.{Contains-append_left, Contains-append_right}
-use Rattle.std.proofs.lemmas.List.Folds.{list_any-append}
-use Rattle.path_text.specs.Graft.{below_of}
-use Rattle.path_text.specs.Order.{is_under, is_within}
-use Rattle.path_text.proofs.Within.{under_within}
-use Rattle.entry_pages.specs.declared.entries.Entry.{Entry}
-use Rattle.entry_pages.specs.declared.entries.Mark.{Mark}
+use Rattle.tree_sync.proofs.Prelude.{◌≡◌, ℕ, Bool, true, false, not, cond, ◌||◌, ◌&&◌, List, [], ◌∷◌, ◌++◌, map, filter, Some, refl, ap, ◌∙◌, sym, subst, arith}
+use Rattle.tree_sync.proofs.Prelude.{nat_eq, is_some, zero, suc, ◌<◌, length, get_or, ◌==◌, AllByRecursion, Contains, list_any, zip, pointwise, false≢true}
+use Rattle.tree_sync.proofs.Prelude.{and_parts, and_from, or_from, or_parts, false_from_ne_true, Contains-append_left, Contains-append_right, list_any-append}
+use Rattle.tree_sync.proofs.Prelude.{below_of, is_under, is_within, under_within, Entry, Mark, is_fine, paths, Fate, Row, Side, side, is_closed, is_gone}
+use Rattle.tree_sync.proofs.Prelude.{is_hidden, is_partial, Pair, is_done, done_is, below_top, is_noted, is_under_some, named, noted, undone, Results, row_at}
 use Rattle.entry_pages.specs.declared.entries.Mark.TheVariants as mark
-use Rattle.entry_pages.specs.Entries.{is_fine}
-use Rattle.flat_list.specs.Spelling.{paths}
-use Rattle.level_work.specs.declared.items.Fate.{Fate}
 use Rattle.level_work.specs.declared.items.Fate.TheVariants as fate
-use Rattle.tree_cmp.specs.declared.rows.Row.{Row}
-use Rattle.tree_cmp.specs.Sides.{Side, side, is_closed, is_gone, is_hidden, is_partial}
-use Rattle.tree_copy.specs.declared.pairs.Pair.{Pair}
-use Rattle.level_work.specs.Counts.{is_done}
-use Rattle.tree_copy.proofs.Copiers.{done_is}
-use Rattle.tree_sync.specs.Laws.{below_top, is_noted, is_under_some, named, noted, undone}
-use Rattle.tree_sync.specs.Results.{Results}
-use Rattle.tree_sync.specs.Syncing.{row_at}
 use Rattle.tree_sync.proofs.Members.{in_kept, in_map, one_off}
 
 -- ---- hidden paths

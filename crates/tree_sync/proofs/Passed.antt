@@ -1,27 +1,12 @@
 -- Searches through rows and paths that ascend.
-use Rattle.std.proofs.Common.{◌≡◌, ℕ, ◌+◌, ◌<◌, ◌≤◌, zero, suc, Bool, true, false, cond, ◌||◌, List, [], ◌∷◌, length}
-use Rattle.std.proofs.Common.{take, drop, get_or, refl, ap}
-use Rattle.std.proofs.Common.{Some, None, sym, ◌∙◌, subst, arith, add-one}
-use Rattle.std.specs.List.{All, AllByRecursion, list_any}
+use Rattle.tree_sync.proofs.Prelude.{◌≡◌, ℕ, ◌+◌, ◌<◌, ◌≤◌, zero, suc, Bool, true, false, cond, ◌||◌, List, [], ◌∷◌, length, take, drop, get_or, refl, ap, Some}
+use Rattle.tree_sync.proofs.Prelude.{None, sym, ◌∙◌, subst, arith, add-one, All, AllByRecursion, list_any, slice_get, is_eq, ordering_reverse, pointwise}
+use Rattle.tree_sync.proofs.Prelude.{bytes_decides, Ordering, Less, Equal, Greater, drop-cons, take-suc, false≢true, false_from_ne_true, or_from, or_right}
+use Rattle.tree_sync.proofs.Prelude.{drop_all, get_or-map, length-map, recursion_from_All, All-push, path_cmp, is_under, is_within, IsPreorder}
+use Rattle.tree_sync.proofs.Prelude.{UnderIsContiguous, refusal, path_cmp_total, path_cmp_ties, path_cmp_same, Row, IsPassed, at_place, IsBehind, IsCleared}
+use Rattle.tree_sync.proofs.Prelude.{row_paths, row_at}
+use Rattle.std.specs.Prelude.{nat_eq}
 use Rattle.std.specs.List.Sorted.{IsStrictlySortedBy}
-use Rattle.std.specs.Prelude.{nat_eq, slice_get}
-use Rattle.std.specs.Ordering.{is_eq, ordering_reverse}
-use Rattle.std.specs.Cmp.Lexicographic.{pointwise, bytes_decides}
-use Rattle.std.specs.declared.cmp.Ordering.{Ordering}
-use Rattle.std.specs.declared.cmp.Ordering.TheVariants.{Less, Equal, Greater}
-use Rattle.std.proofs.Math.Seq.{drop-cons, take-suc}
-use Rattle.std.proofs.lemmas.Bool.{false≢true, false_from_ne_true, or_from, or_right}
-use Rattle.std.proofs.lemmas.List.{drop_all, get_or-map, length-map}
-use Rattle.std.proofs.lemmas.List.Elements.{recursion_from_All, All-push}
-use Rattle.path_text.specs.Order.{path_cmp, is_under, is_within, IsPreorder, UnderIsContiguous}
-use Rattle.path_text.specs.Path.{refusal}
-use Rattle.path_text.specs.Total.{path_cmp_total, path_cmp_ties, path_cmp_same}
-use Rattle.tree_cmp.specs.declared.rows.Row.{Row}
-use Rattle.tree_cmp.specs.Passes.{IsPassed}
-use Rattle.tree_cmp.proofs.Passing.{at_place}
-use Rattle.tree_sync.specs.PrivateSearch.{IsBehind, IsCleared}
-use Rattle.tree_sync.specs.PrivateSteps.{row_paths}
-use Rattle.tree_sync.specs.Syncing.{row_at}
 
 abbrev same : List ℕ → List ℕ → Bool
 same = pointwise nat_eq

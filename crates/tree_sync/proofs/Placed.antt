@@ -1,12 +1,6 @@
 -- The one path of which no destination stands: every path is within `/`.
-use Rattle.std.proofs.Common.{◌≡◌, ℕ, Bool, true, false, cond, List, [], ◌∷◌, length, Option, Some, None, refl, ◌∙◌, sym, subst, arith}
-use Rattle.std.specs.Prelude.{◌==◌}
-use Rattle.std.proofs.lemmas.Bool.{false≢true}
-use Rattle.std.proofs.lemmas.Bool.Decides.{nat_tests}
-use Rattle.path_text.specs.Order.{is_within}
-use Rattle.path_text.specs.Path.{refusal, parent_of}
-use Rattle.path_text.proofs.Within.{root_is, within_root}
-use Rattle.tree_copy.specs.Placing.{overlap}
+use Rattle.tree_sync.proofs.Prelude.{◌≡◌, ℕ, Bool, true, false, cond, List, [], ◌∷◌, length, Option, Some, None, refl, ◌∙◌, sym, subst, arith, ◌==◌, false≢true}
+use Rattle.tree_sync.proofs.Prelude.{nat_tests, is_within, refusal, parent_of, root_is, within_root, overlap}
 use Rattle.tree_sync.proofs.Apart.{are_apart}
 
 one_byte : (n : ℕ) → (n == 1) ≡ true → n ≡ 1

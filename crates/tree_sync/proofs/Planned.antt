@@ -1,14 +1,6 @@
 -- A comparison and the choice by it are a plan.
-use Rattle.std.proofs.Common.{◌≡◌, Bool, true, false, cond, ◌&&◌, List, [], map, length, filter, Option, refl, ap, ◌∙◌}
-use Rattle.outside.specs.Tree.{Files}
-use Rattle.entry_pages.specs.declared.entries.Entry.{Entry}
-use Rattle.tree_cmp.specs.Rows.{Findings, IsComparison}
-use Rattle.tree_cmp.specs.Sides.{side}
-use Rattle.tree_copy.specs.declared.pairs.Pair.{Pair}
-use Rattle.tree_sync.specs.declared.dividing.Division.{Division}
-use Rattle.tree_sync.specs.declared.planning.Plan.{Plan}
-use Rattle.tree_sync.specs.PrivateSteps.{IsDivision, IsPlan, is_chosen_off}
-use Rattle.tree_sync.specs.Syncing.{is_chosen, is_copied, is_kept, is_there}
+use Rattle.tree_sync.proofs.Prelude.{◌≡◌, Bool, true, false, cond, ◌&&◌, List, [], map, length, filter, Option, refl, ap, ◌∙◌, Files, Entry, Findings}
+use Rattle.tree_sync.proofs.Prelude.{IsComparison, side, Pair, Division, Plan, IsDivision, IsPlan, is_chosen_off, is_chosen, is_copied, is_kept, is_there}
 use Rattle.tree_sync.proofs.Kept.{chosen_off}
 
 -- the files that a comparison missed

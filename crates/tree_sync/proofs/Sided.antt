@@ -1,23 +1,8 @@
 -- A side tells the tree at its paths.
-use Rattle.std.proofs.Common.{◌≡◌, ℕ, Bool, true, false, not, ◌&&◌, List, Option, Some, None, IfSome, refl, ap, ◌∙◌, sym, subst, nat_eq}
-use Rattle.std.proofs.Common.{is_some}
-use Rattle.std.specs.Prelude.{IsTrue, is_none}
-use Rattle.std.specs.FinMap.{get}
-use Rattle.std.specs.List.{All, Contains}
-use Rattle.std.specs.Option.{option_map}
-use Rattle.std.specs.Cmp.Lexicographic.{pointwise, bytes_decides}
-use Rattle.std.proofs.lemmas.Bool.{false≢true, and_parts}
-use Rattle.std.proofs.lemmas.List.Elements.{All-contains}
-use Rattle.path_text.specs.Graft.{below_of, grafted}
-use Rattle.path_text.specs.Order.{is_within}
-use Rattle.path_text.specs.Path.{refusal}
-use Rattle.path_text.proofs.Parts.{graft_undoes_below}
-use Rattle.outside.specs.Tree.{Files, Node, IsTree, NodesHavePaths, link_at, stat_of}
-use Rattle.outside.specs.declared.trees.Stat.{Stat}
-use Rattle.entry_pages.specs.declared.entries.Entry.{Entry}
-use Rattle.tree_cmp.specs.Rows.{stat_at}
-use Rattle.tree_cmp.specs.Sides.{Side, side, IsSide, entry_at, is_gone}
-use Rattle.tree_sync.specs.Syncing.{AreTold}
+use Rattle.tree_sync.proofs.Prelude.{◌≡◌, ℕ, Bool, true, false, not, ◌&&◌, List, Option, Some, None, IfSome, refl, ap, ◌∙◌, sym, subst, nat_eq, is_some, IsTrue}
+use Rattle.tree_sync.proofs.Prelude.{is_none, get, All, Contains, option_map, pointwise, bytes_decides, false≢true, and_parts, All-contains, below_of, grafted}
+use Rattle.tree_sync.proofs.Prelude.{is_within, refusal, graft_undoes_below, Files, Node, IsTree, NodesHavePaths, link_at, stat_of, Stat, Entry, stat_at, Side}
+use Rattle.tree_sync.proofs.Prelude.{side, IsSide, entry_at, is_gone, AreTold}
 use Rattle.tree_sync.proofs.Members.{found_by}
 
 abbrev pub StatTold : Files → Entry → Type 0

@@ -1,26 +1,9 @@
 -- The steps of a sync together.
-use Rattle.std.proofs.Common.{◌≡◌, ℕ, ◌+◌, Bool, List, [], ◌∷◌, map, length, Option, Some, None, IfSome, ap, ◌∙◌}
-use Rattle.std.proofs.Common.{sym, subst, arith, is_some}
-use Rattle.std.specs.List.{All, count_by}
-use Rattle.std.proofs.lemmas.Bool.{false≢true}
-use Rattle.std.proofs.lemmas.List.Elements.{All-map}
-use Rattle.outside.specs.Asked.{Asks}
-use Rattle.outside.specs.Count.{RoseBy}
-use Rattle.outside.specs.Tree.{Files, IsTree}
-use Rattle.entry_pages.specs.declared.entries.Entry.{Entry}
-use Rattle.flat_list.specs.Spelling.{paths}
-use Rattle.level_work.specs.Counts.{is_failed}
-use Rattle.level_work.specs.declared.items.Fate.{Fate}
-use Rattle.tree_cmp.specs.Readers.{HaveCauses, ShowsChange, ShowsFailure, StatsTold}
-use Rattle.tree_cmp.specs.Rows.{Findings, IsComparison}
-use Rattle.tree_cmp.specs.Sides.{side}
-use Rattle.tree_remove.specs.Removing.{AreChosen, AreThere, SameButChosen}
-use Rattle.tree_copy.specs.declared.pairs.Pair.{Pair}
-use Rattle.tree_copy.specs.Copying.{AreEarly, CanCopy, Copied, FitsTree, SameButTargets, treated}
-use Rattle.tree_sync.specs.declared.planning.Plan.{Plan}
-use Rattle.tree_sync.specs.PrivateSteps.{Begun, results_of}
-use Rattle.tree_sync.specs.Results.{Results}
-use Rattle.tree_sync.specs.Syncing.{AreCopied, AreRemoved, FitsSync, ReadsShow, SameOutside, Synced, chosen_of, copied_of}
+use Rattle.tree_sync.proofs.Prelude.{◌≡◌, ℕ, ◌+◌, Bool, List, [], ◌∷◌, map, length, Option, Some, None, IfSome, ap, ◌∙◌, sym, subst, arith, is_some, All}
+use Rattle.tree_sync.proofs.Prelude.{count_by, false≢true, All-map, Asks, RoseBy, Files, IsTree, Entry, paths, is_failed, Fate, HaveCauses, ShowsChange}
+use Rattle.tree_sync.proofs.Prelude.{ShowsFailure, StatsTold, Findings, IsComparison, side, AreChosen, AreThere, SameButChosen, Pair, AreEarly, CanCopy, Copied}
+use Rattle.tree_sync.proofs.Prelude.{FitsTree, SameButTargets, treated, Plan, Begun, results_of, Results, AreCopied, AreRemoved, FitsSync, ReadsShow}
+use Rattle.tree_sync.proofs.Prelude.{SameOutside, Synced, chosen_of, copied_of}
 use Rattle.tree_sync.proofs.Apart.{can_copy, can_remove, chosen_there, outside_copied, outside_removed}
 use Rattle.tree_sync.proofs.Fits.{fits_copy}
 

@@ -1,26 +1,15 @@
 -- Whatever handled the paths, and in which order: the entries, put in path order, are the recursive walk.
-use Rattle.std.proofs.Common.{◌≡◌, ℕ, ◌<◌, List, [], ◌∷◌, map, length, refl, ap, ◌∙◌, sym, arith, cond}
-use Rattle.std.specs.List.{AllByRecursion, flat_map}
-use Rattle.std.specs.FinMap.{get}
-use Rattle.std.specs.List.Sorted.{IsStrictlySortedBy, IsPermutation}
-use Rattle.std.specs.declared.cmp.Ordering.TheVariants.{Less}
-use Rattle.std.specs.Cmp.Lexicographic.{nat_list_eq_equiv}
-use Rattle.std.proofs.lemmas.List.Sorted.{sum_by-IsPermutation, IsPermutation-sym, All-permutation}
-use Rattle.std.proofs.lemmas.List.Elements.{recursion_from_All, All-from_recursion}
-use Rattle.path_text.specs.Order.{path_cmp}
-use Rattle.outside.specs.Tree.{Files, IsTree}
-use Rattle.entry_pages.specs.declared.entries.Entry.{Entry}
-use Rattle.circle_run.specs.Balance.{Balanced}
-use Rattle.tree_walk.specs.Walk.{Answers, answer_in, answers_in, entry_of, walk, paths_of}
-use Rattle.tree_walk.specs.Held.{Held, IsDone, log_of, entries_of}
+use Rattle.tree_walk.proofs.Prelude.{◌≡◌, ℕ, ◌<◌, List, [], ◌∷◌, map, length, refl, ap, ◌∙◌, sym, arith, cond, AllByRecursion, flat_map, get, IsPermutation}
+use Rattle.tree_walk.proofs.Prelude.{Less, nat_list_eq_equiv, sum_by-IsPermutation, IsPermutation-sym, All-permutation, recursion_from_All, All-from_recursion}
+use Rattle.tree_walk.proofs.Prelude.{path_cmp, Files, IsTree, Entry, Balanced, Answers, answer_in, answers_in, entry_of, walk, paths_of, Held, IsDone, log_of}
+use Rattle.tree_walk.proofs.Prelude.{entries_of, sum_by-ones, sum_by-map}
+use Rattle.std.specs.List.Sorted.{IsStrictlySortedBy}
 use Rattle.tree_walk.proofs.Lined.{Lined}
 use Rattle.tree_walk.proofs.Once.{IsGathered, list_rises, as_often}
 use Rattle.tree_walk.proofs.Covers.{covers, lined, from_apart}
 use Rattle.tree_walk.proofs.Often.{often}
 use Rattle.tree_walk.proofs.Lawful.{walks_ascend, walks_own, IsOwn}
 use Rattle.tree_walk.proofs.Same.{same_paths, unequal}
-use Rattle.circle_run.proofs.Sums.{sum_by-ones}
-use Rattle.circle_run.proofs.Maps.{sum_by-map}
 
 -- ---- the failed answers that a list with each path once tells
 

@@ -1,29 +1,13 @@
 -- The answers that make an entry.
-use Rattle.std.proofs.Common.{◌≡◌, ◌∙◌, inl, inr, ℕ, Bool, true, false, ◌&&◌, List, [], ◌∷◌, ◌++◌, refl, sym, subst, Option, Some, None, IfSome}
-use Rattle.std.specs.Prelude.{Result, Ok, Err}
-use Rattle.std.specs.List.{AllByRecursion, All, flat_map}
-use Rattle.std.specs.List.Sorted.{IsPermutation}
-use Rattle.std.proofs.lemmas.Bool.{false≢true}
-use Rattle.std.proofs.lemmas.List.Concat.{flat_map-append}
-use Rattle.std.proofs.lemmas.List.Elements.{All-from_recursion}
-use Rattle.outside.specs.Asked.{Asks}
+use Rattle.tree_walk.proofs.Prelude.{◌≡◌, ◌∙◌, inl, inr, ℕ, Bool, true, false, ◌&&◌, List, [], ◌∷◌, ◌++◌, refl, sym, subst, Option, Some, None, IfSome, Result}
+use Rattle.tree_walk.proofs.Prelude.{Ok, Err, AllByRecursion, All, flat_map, IsPermutation, false≢true, flat_map-append, All-from_recursion, Asks, Failed}
+use Rattle.tree_walk.proofs.Prelude.{Listing, Kind, LinkError, ListError, Stat, Entry, is_kind, is_listed, by_stat, by_link, by_list, is_linked, IsAnswered}
+use Rattle.tree_walk.proofs.Prelude.{all_join}
 use Rattle.outside.specs.Asked as asked
-use Rattle.outside.specs.declared.failures.Failed.{Failed}
-use Rattle.outside.specs.declared.listings.Listing.{Listing}
-use Rattle.outside.specs.declared.trees.Kind.{Kind}
 use Rattle.outside.specs.declared.trees.Kind.TheVariants as kind
-use Rattle.outside.specs.declared.trees.LinkError.{LinkError}
 use Rattle.outside.specs.declared.trees.LinkError.TheVariants as link_e
-use Rattle.outside.specs.declared.trees.ListError.{ListError}
 use Rattle.outside.specs.declared.trees.ListError.TheVariants as list_e
-use Rattle.outside.specs.declared.trees.Stat.{Stat}
-use Rattle.entry_pages.specs.declared.entries.Entry.{Entry}
-use Rattle.entry_pages.specs.Entries.{is_kind}
-use Rattle.tree_walk.specs.Held.{is_listed}
-use Rattle.tree_walk.specs.Looking.{by_stat, by_link, by_list, is_linked}
-use Rattle.tree_walk.specs.Answered.{IsAnswered}
 use Rattle.tree_walk.proofs.AnyOrder.{moved}
-use Rattle.flat_list.proofs.Pieces.{all_join}
 
 -- no mark but a fine one has a target
 off : (b : Bool) → (b && false) ≡ true → ⊥

@@ -1,31 +1,12 @@
 -- A walk has an entry for each node that is its root or under it, where the files answered of every directory on the way.
-use Rattle.std.proofs.Common.{◌≡◌, ◌⊎◌, inl, inr, ⊎_elim, ℕ, ◌+◌, ◌<◌, ◌≤◌, zero, suc, Bool, true, false, cond, ◌||◌, List, [], ◌∷◌, ◌++◌, map, length}
-use Rattle.std.proofs.Common.{Option, Some, None, refl, ap, ◌∙◌, sym, subst, arith, eqb}
-use Rattle.std.specs.Prelude.{is_some, slice_get}
-use Rattle.std.specs.List.{AllByRecursion, flat_map, filter_map, cons_option, list_any}
-use Rattle.std.specs.FinMap.{get, keys, contains_key-keys}
-use Rattle.std.specs.Ordering.{eq_by_cmp}
-use Rattle.std.specs.Cmp.Lexicographic.{pointwise, bytes_decides}
-use Rattle.std.proofs.lemmas.Bool.{false≢true, or_left, or_right, or_cases}
-use Rattle.path_text.specs.Path.{joined, refusal, parent_of, level_of}
-use Rattle.path_text.specs.Order.{path_cmp, is_under, is_within}
-use Rattle.path_text.specs.Total.{path_cmp_ties}
-use Rattle.path_text.proofs.Preorder.{front-joined}
-use Rattle.path_text.proofs.Levels.{parent_above}
-use Rattle.path_text.proofs.Parents.{parent_under}
-use Rattle.path_text.proofs.Parts.{short}
-use Rattle.path_text.proofs.Within.{under_longer, under_within, same_or_under, within_up}
-use Rattle.outside.specs.Tree.{Files, IsTree, is_dir, is_root, name_below, names_in}
-use Rattle.outside.specs.Writes.{under, is_top}
-use Rattle.outside.specs.Lease.{leased}
-use Rattle.outside.specs.Parts.{IsPart, AreTops}
-use Rattle.outside.proofs.Names.{placed_path}
-use Rattle.outside.proofs.Children.{child_is}
-use Rattle.outside.proofs.Parents.{child_of_parent}
-use Rattle.outside.proofs.Leased.{get_part, dir_is_there}
-use Rattle.outside.proofs.PartTrees.{leases_keep_trees}
-use Rattle.entry_pages.specs.declared.entries.Entry.{Entry}
-use Rattle.tree_walk.specs.Walk.{Answer, told, stat_failed, list_failed, Answers, is_told, entry_of, children_of, walk, paths_of, WalkListsAll}
+use Rattle.tree_walk.proofs.Prelude.{◌≡◌, ◌⊎◌, inl, inr, ⊎_elim, ℕ, ◌+◌, ◌<◌, ◌≤◌, zero, suc, Bool, true, false, cond, ◌||◌, List, [], ◌∷◌, ◌++◌, map, length}
+use Rattle.tree_walk.proofs.Prelude.{Option, Some, None, refl, ap, ◌∙◌, sym, subst, arith, eqb, is_some, slice_get, AllByRecursion, flat_map, filter_map}
+use Rattle.tree_walk.proofs.Prelude.{cons_option, list_any, get, keys, contains_key-keys, eq_by_cmp, pointwise, bytes_decides, false≢true, or_left, or_right}
+use Rattle.tree_walk.proofs.Prelude.{or_cases, joined, refusal, parent_of, level_of, path_cmp, is_under, is_within, path_cmp_ties, front-joined, parent_above}
+use Rattle.tree_walk.proofs.Prelude.{parent_under, short, under_longer, under_within, same_or_under, within_up, Files, IsTree, is_dir, is_root, name_below}
+use Rattle.tree_walk.proofs.Prelude.{names_in, under, is_top, leased, IsPart, AreTops, placed_path, child_is, child_of_parent, get_part, dir_is_there}
+use Rattle.tree_walk.proofs.Prelude.{leases_keep_trees, Entry, Answer, told, stat_failed, list_failed, Answers, is_told, entry_of, children_of, walk, paths_of}
+use Rattle.tree_walk.proofs.Prelude.{WalkListsAll}
 use Rattle.tree_walk.proofs.Recursive.{walk_is, children_are, children_short}
 use Rattle.tree_walk.proofs.Lawful.{path_is}
 use Rattle.tree_walk.proofs.Nodes.{not_none}

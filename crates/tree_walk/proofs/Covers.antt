@@ -1,20 +1,9 @@
 -- Which paths are equal to a path or above it.
-use Rattle.std.proofs.Common.{◌≡◌, ℕ, ◌+◌, ◌<◌, ◌≤◌, Bool, true, false, ◌&&◌, ◌||◌, List, [], ◌∷◌, ◌++◌, map, length, refl, ap, ◌∙◌, sym, subst, arith, cond}
-use Rattle.std.proofs.Common.{append-nil, length-append, eqb}
-use Rattle.std.specs.Prelude.{◌==◌, nat_lt}
-use Rattle.std.specs.List.{AllByRecursion, sum_by, count_by}
-use Rattle.std.proofs.lemmas.Bool.{false≢true, and_parts}
-use Rattle.std.proofs.lemmas.Bool.Decides.{nat_tests}
-use Rattle.std.proofs.lemmas.List.Sums.{sum_by-cons}
-use Rattle.std.specs.Cmp.Lexicographic.{pointwise, bytes_decides}
-use Rattle.std.specs.Ordering.{nat_cmp, ordering_then}
-use Rattle.std.specs.declared.cmp.Ordering.{Ordering}
-use Rattle.std.specs.declared.cmp.Ordering.TheVariants.{Less}
+use Rattle.tree_walk.proofs.Prelude.{◌≡◌, ℕ, ◌+◌, ◌<◌, ◌≤◌, Bool, true, false, ◌&&◌, ◌||◌, List, [], ◌∷◌, ◌++◌, map, length, refl, ap, ◌∙◌, sym, subst, arith}
+use Rattle.tree_walk.proofs.Prelude.{cond, append-nil, length-append, eqb, ◌==◌, nat_lt, AllByRecursion, sum_by, count_by, false≢true, and_parts, nat_tests}
+use Rattle.tree_walk.proofs.Prelude.{sum_by-cons, pointwise, bytes_decides, nat_cmp, ordering_then, Ordering, Less, path_cmp, byte_rank, front, before_all}
+use Rattle.tree_walk.proofs.Prelude.{precedes, front_of_child, joined, is_in, is_in_some, Apart}
 use Rattle.std.specs.List.Sorted.{IsStrictlySortedBy}
-use Rattle.path_text.specs.Order.{path_cmp, byte_rank, front}
-use Rattle.path_text.proofs.Preorder.{before_all, precedes, front_of_child}
-use Rattle.path_text.specs.Path.{joined}
-use Rattle.tree_walk.specs.Roots.{is_in, is_in_some, Apart}
 use Rattle.tree_walk.proofs.Lined.{Lined}
 use Rattle.tree_walk.proofs.Inside.{begins, begins-itself, begins-less, begins-length, at_or_under, is_in_is}
 

@@ -1,37 +1,16 @@
 -- What was handled and what is left are a cut of the recursive walk.
-use Rattle.std.proofs.Common.{◌≡◌, ℕ, ◌+◌, ◌<◌, ◌≤◌, true, false, ◌||◌, List, [], ◌∷◌, ◌++◌, length, refl, ap, ◌∙◌, sym, subst, arith, cond}
-use Rattle.std.proofs.Common.{length-append, zero, suc, Option, Some, None, inl, inr}
-use Rattle.std.specs.List.{AllByRecursion, AllWithin, HoldsAt, All, sum_by}
-use Rattle.std.specs.FinMap.{get}
-use Rattle.std.specs.List.Sorted.{IsPermutation}
-use Rattle.std.specs.declared.alloc.Global.{Global}
-use Rattle.std.specs.Prelude.{Vec, ◌==◌}
-use Rattle.std.specs.Vec.{vec_len}
-use Rattle.std.proofs.lemmas.Bool.Decides.{nat_tests}
-use Rattle.std.proofs.lemmas.List.Sums.{sum_by-cons}
-use Rattle.std.proofs.lemmas.List.Sorted.{sum_by-IsPermutation, length_permutation}
-use Rattle.std.proofs.lemmas.List.Elements.{All-from_recursion, recursion_from_All}
-use Rattle.outside.specs.Tree.{Files, IsTree}
-use Rattle.outside.proofs.Names.{all_weaker}
-use Rattle.entry_pages.specs.declared.entries.Entry.{Entry}
-use Rattle.circle_run.specs.Balance.{handled, pushed, Balanced}
-use Rattle.circle_run.specs.Left.{all_left}
-use Rattle.tree_walk.specs.declared.reports.Walked.{Walked}
+use Rattle.tree_walk.proofs.Prelude.{◌≡◌, ℕ, ◌+◌, ◌<◌, ◌≤◌, true, false, ◌||◌, List, [], ◌∷◌, ◌++◌, length, refl, ap, ◌∙◌, sym, subst, arith, cond}
+use Rattle.tree_walk.proofs.Prelude.{length-append, zero, suc, Option, Some, None, inl, inr, AllByRecursion, AllWithin, HoldsAt, All, sum_by, get}
+use Rattle.tree_walk.proofs.Prelude.{IsPermutation, Global, Vec, ◌==◌, vec_len, nat_tests, sum_by-cons, sum_by-IsPermutation, length_permutation}
+use Rattle.tree_walk.proofs.Prelude.{All-from_recursion, recursion_from_All, Files, IsTree, all_weaker, Entry, handled, pushed, Balanced, all_left, Walked}
+use Rattle.tree_walk.proofs.Prelude.{answer_in, entry_of, children_of, paths_of, Held, IsDone, log_of, entries_of, is_in, is_in_some, Apart, IsCut, IsCutFound}
+use Rattle.tree_walk.proofs.Prelude.{IsTooMany, IfCut, log_by, found_in, max_entries, IsFound, nil_from_length, sum_by-map, all_join}
 use Rattle.tree_walk.specs.declared.reports.Walked.TheVariants as walked
-use Rattle.tree_walk.specs.Walk.{answer_in, entry_of, children_of, paths_of}
-use Rattle.tree_walk.specs.Held.{Held, IsDone, log_of, entries_of}
-use Rattle.tree_walk.specs.Roots.{is_in, is_in_some, Apart}
-use Rattle.tree_walk.specs.Cut.{IsCut, IsCutFound, IsTooMany, IfCut, log_by, found_in}
-use Rattle.flat_list.specs.Spelling.{max_entries}
-use Rattle.tree_walk.specs.Found.{IsFound}
 use Rattle.tree_walk.proofs.Lists.{all_map}
 use Rattle.tree_walk.proofs.Inside.{at_or_under, is_in_is}
 use Rattle.tree_walk.proofs.Covers.{covers, covers-itself, one, from_apart, to_apart, some_covers}
 use Rattle.tree_walk.proofs.Once.{IsGathered, covered, as_often, each_here, list_within}
 use Rattle.tree_walk.proofs.AnyOrder.{moved, to_entries}
-use Rattle.std.proofs.lemmas.List.{nil_from_length}
-use Rattle.circle_run.proofs.Maps.{sum_by-map}
-use Rattle.flat_list.proofs.Pieces.{all_join}
 
 abbrev pub kids : Files → Entry → List (List ℕ)
 kids files e = children_of (answer_in e) files e.path

@@ -1,27 +1,14 @@
 -- Each entry of walks is that of a root, or its directory has an entry too.
-use Rattle.std.proofs.Common.{◌≡◌, ◌⊎◌, inl, inr, ⊎_elim, ℕ, ◌-◌, zero, suc, Bool, true, false, cond, ◌&&◌, ◌||◌, List, [], ◌∷◌, ◌++◌, map}
-use Rattle.std.proofs.Common.{length, Option, Some, None, refl, ◌∙◌, sym, subst}
-use Rattle.std.proofs.lemmas.Bool.{false≢true, or_left, or_right, and_from}
-use Rattle.std.proofs.lemmas.List.Elements.{recursion_from_All, All-from_recursion}
-use Rattle.std.proofs.lemmas.List.Folds.{list_any-append}
-use Rattle.std.specs.Prelude.{nat_eq, IsTrue}
-use Rattle.std.specs.FinMap.{get}
-use Rattle.std.specs.List.{AllByRecursion, flat_map, list_any}
-use Rattle.std.specs.Cmp.Lexicographic.{pointwise, bytes_decides}
-use Rattle.path_text.specs.Path.{is_name, joined, refusal, parent_of}
-use Rattle.path_text.proofs.Parents.{parent_joined}
-use Rattle.path_text.proofs.Preorder.{no_slash}
-use Rattle.outside.specs.Tree.{Files, Node, Body, dir, file, link, other, IsTree, is_dir, is_dir_body, kind_of, names_in}
-use Rattle.outside.proofs.Names.{placed_path, children_are_names, all_weaker}
+use Rattle.tree_walk.proofs.Prelude.{◌≡◌, ◌⊎◌, inl, inr, ⊎_elim, ℕ, ◌-◌, zero, suc, Bool, true, false, cond, ◌&&◌, ◌||◌, List, [], ◌∷◌, ◌++◌, map, length}
+use Rattle.tree_walk.proofs.Prelude.{Option, Some, None, refl, ◌∙◌, sym, subst, false≢true, or_left, or_right, and_from, recursion_from_All, All-from_recursion}
+use Rattle.tree_walk.proofs.Prelude.{list_any-append, nat_eq, IsTrue, get, AllByRecursion, flat_map, list_any, pointwise, bytes_decides, is_name, joined}
+use Rattle.tree_walk.proofs.Prelude.{refusal, parent_of, parent_joined, no_slash, Files, Node, Body, dir, file, link, other, IsTree, is_dir, is_dir_body}
+use Rattle.tree_walk.proofs.Prelude.{kind_of, names_in, placed_path, children_are_names, all_weaker, Entry, is_kind, is_of, Answer, told, stat_failed}
+use Rattle.tree_walk.proofs.Prelude.{list_failed, Answers, entry_of, children_of, walk_down, has_dir, EntriesHaveParents, dir_is_there, all_join}
 use Rattle.outside.specs.declared.trees.Kind.TheVariants as kind
-use Rattle.entry_pages.specs.declared.entries.Entry.{Entry}
-use Rattle.entry_pages.specs.Entries.{is_kind, is_of}
-use Rattle.tree_walk.specs.Walk.{Answer, told, stat_failed, list_failed, Answers, entry_of, children_of, walk_down, walk}
-use Rattle.tree_walk.specs.Told.{has_dir, EntriesHaveParents}
+use Rattle.tree_walk.specs.Walk.{walk}
 use Rattle.tree_walk.proofs.Nodes.{not_none}
 use Rattle.tree_walk.proofs.Lawful.{path_is}
-use Rattle.outside.proofs.Leased.{dir_is_there}
-use Rattle.flat_list.proofs.Pieces.{all_join}
 
 -- the test of a directory's entry at a path
 abbrev dir_at : List ℕ → Entry → Bool

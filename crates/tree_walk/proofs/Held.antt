@@ -1,18 +1,8 @@
 -- One entry more is held.
-use Rattle.std.proofs.Common.{◌≡◌, ℕ, ◌+◌, List, [], ◌∷◌, ◌++◌, map, length, refl, ap, ◌∙◌, sym, subst, arith, true, false, cond, drop, Option, Some, None}
-use Rattle.std.proofs.Common.{IfSome}
-use Rattle.std.specs.List.{AllByRecursion, sum_by, count_by}
-use Rattle.std.proofs.lemmas.List.{map-append}
-use Rattle.std.proofs.lemmas.List.Sums.{sum_by_push, sum_by-cons}
-use Rattle.path_text.specs.Path.{joined}
-use Rattle.outside.specs.Tree.{Files, AreNames}
-use Rattle.outside.specs.declared.listings.Listing.{Listing}
-use Rattle.entry_pages.specs.declared.entries.Entry.{Entry}
-use Rattle.tree_walk.specs.Held.{Held, IsDone, IsPush, Holds, held_of, is_listed, first_names, log_of, entries_of}
-use Rattle.tree_walk.specs.Walk.{weight_of}
-use Rattle.tree_walk.specs.Looking.{IsLook}
-use Rattle.entry_pages.specs.Entries.{is_shaped}
-use Rattle.flat_list.proofs.Pieces.{all_join}
+use Rattle.tree_walk.proofs.Prelude.{◌≡◌, ℕ, ◌+◌, List, [], ◌∷◌, ◌++◌, map, length, refl, ap, ◌∙◌, sym, subst, arith, true, false, cond, drop, Option, Some}
+use Rattle.tree_walk.proofs.Prelude.{None, IfSome, AllByRecursion, sum_by, count_by, map-append, sum_by_push, sum_by-cons, joined, Files, AreNames, Listing}
+use Rattle.tree_walk.proofs.Prelude.{Entry, Held, IsDone, IsPush, Holds, held_of, is_listed, first_names, log_of, entries_of, weight_of, IsLook, is_shaped}
+use Rattle.tree_walk.proofs.Prelude.{all_join}
 
 abbrev listed : Entry → ℕ
 listed x = cond (is_listed x) 1 0

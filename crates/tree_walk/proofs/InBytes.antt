@@ -1,13 +1,6 @@
 -- What the code asks of the bytes of two paths.
-use Rattle.std.proofs.Common.{◌≡◌, ℕ, ◌<◌, ◌≤◌, Bool, true, false, ◌&&◌, ◌||◌, List, [], ◌∷◌, ◌++◌, length, refl, ap, ◌∙◌, sym, arith, cond, suc, eqb}
-use Rattle.std.proofs.Common.{length-append, None}
-use Rattle.std.proofs.lemmas.Bool.{and_right}
-use Rattle.std.specs.Prelude.{◌==◌}
-use Rattle.std.specs.List.{starts_with, slice_index_or}
-use Rattle.std.proofs.lemmas.Bool.Decides.{nat_tests}
-use Rattle.path_text.specs.Path.{refusal}
-use Rattle.path_text.specs.Order.{front}
-use Rattle.tree_walk.specs.Roots.{is_in}
+use Rattle.tree_walk.proofs.Prelude.{◌≡◌, ℕ, ◌<◌, ◌≤◌, Bool, true, false, ◌&&◌, ◌||◌, List, [], ◌∷◌, ◌++◌, length, refl, ap, ◌∙◌, sym, arith, cond, suc, eqb}
+use Rattle.tree_walk.proofs.Prelude.{length-append, None, and_right, ◌==◌, starts_with, slice_index_or, nat_tests, refusal, front, is_in}
 use Rattle.tree_walk.proofs.Inside.{begins, begins_is, begins-length, is_in_is}
 
 -- the path p, and then its end or a slash

@@ -1,13 +1,6 @@
 -- A path is in another: it is that path, or under it.
-use Rattle.std.proofs.Common.{◌≡◌, ℕ, ◌≤◌, Bool, true, false, ◌&&◌, List, [], ◌∷◌, ◌++◌, length, refl, ap, ◌∙◌, sym, arith, eqb, length-append, None}
-use Rattle.std.specs.Prelude.{◌==◌}
-use Rattle.std.specs.List.{starts_with}
-use Rattle.std.proofs.lemmas.Bool.{false≢true, and_parts}
-use Rattle.std.proofs.lemmas.Bool.Decides.{nat_tests}
-use Rattle.path_text.specs.Path.{refusal}
-use Rattle.path_text.specs.Order.{front}
-use Rattle.tree_walk.specs.Roots.{is_in}
-use Rattle.path_text.proofs.Parts.{front_long}
+use Rattle.tree_walk.proofs.Prelude.{◌≡◌, ℕ, ◌≤◌, Bool, true, false, ◌&&◌, List, [], ◌∷◌, ◌++◌, length, refl, ap, ◌∙◌, sym, arith, eqb, length-append, None}
+use Rattle.tree_walk.proofs.Prelude.{◌==◌, starts_with, false≢true, and_parts, nat_tests, refusal, front, is_in, front_long}
 
 -- ---- lists that begin with a list
 

@@ -1,35 +1,20 @@
 -- The laws of the recursive walk.
-use Rattle.std.proofs.Common.{◌≡◌, ℕ, ◌+◌, ◌-◌, ◌≤◌, true, false, cond, List, [], ◌∷◌, ◌++◌, map, length, Option, Some, None, refl, ap, ◌∙◌, sym, subst}
-use Rattle.std.proofs.Common.{arith, zero, suc, eqb}
-use Rattle.std.specs.Prelude.{is_some}
-use Rattle.std.specs.List.{AllByRecursion, flat_map, filter_map, cons_option, count_by, sum_by, Contains}
+use Rattle.tree_walk.proofs.Prelude.{◌≡◌, ℕ, ◌+◌, ◌-◌, ◌≤◌, true, false, cond, List, [], ◌∷◌, ◌++◌, map, length, Option, Some, None, refl, ap, ◌∙◌, sym, subst}
+use Rattle.tree_walk.proofs.Prelude.{arith, zero, suc, eqb, is_some, AllByRecursion, flat_map, filter_map, cons_option, count_by, sum_by, Contains, get, keys}
+use Rattle.tree_walk.proofs.Prelude.{contains_key-keys, eq_by_cmp_equiv, pointwise, bytes_decides, Less, false≢true, recursion_from_All, All-from_recursion}
+use Rattle.tree_walk.proofs.Prelude.{All-contains_itself, sum_by-cons, list_any-from_Contains, joined, path_cmp, precedes, precedes-Less, front-joined}
+use Rattle.tree_walk.proofs.Prelude.{path_cmp_total, Files, Node, IsTree, is_dir_body, name_below, names_in, placed_path, all_weaker, child_is, Entry, Answer}
+use Rattle.tree_walk.proofs.Prelude.{told, stat_failed, list_failed, Answers, all_told, entry_of, children_of, walk_down, paths_of, weight, weight_of}
+use Rattle.tree_walk.proofs.Prelude.{answer_in, answers_in, WalkIsRecursive, WalkAscends, WalkHasEachPathOnce, WalkFindsAll, WalkWithoutFaultsIsFine, all_join}
 use Rattle.std.specs.List.Sorted.{IsStrictlySortedBy}
-use Rattle.std.specs.FinMap.{get, keys, contains_key-keys}
-use Rattle.std.specs.Cmp.{eq_by_cmp_equiv}
-use Rattle.std.specs.Cmp.Lexicographic.{pointwise, bytes_decides}
-use Rattle.std.specs.declared.cmp.Ordering.TheVariants.{Less}
-use Rattle.std.proofs.lemmas.Bool.{false≢true}
-use Rattle.std.proofs.lemmas.List.Elements.{recursion_from_All, All-from_recursion, All-contains_itself}
-use Rattle.std.proofs.lemmas.List.Sums.{sum_by-cons}
-use Rattle.std.proofs.lemmas.Map.Views.{list_any-from_Contains}
-use Rattle.path_text.specs.Path.{joined}
-use Rattle.path_text.specs.Order.{path_cmp}
-use Rattle.path_text.proofs.Preorder.{precedes, precedes-Less, front-joined}
-use Rattle.path_text.specs.Total.{path_cmp_total}
-use Rattle.outside.specs.Tree.{Files, Node, IsTree, is_dir_body, name_below, names_in}
-use Rattle.outside.proofs.Names.{placed_path, all_weaker}
 use Rattle.path_text.proofs.Parts as parts
-use Rattle.outside.proofs.Children.{child_is}
-use Rattle.entry_pages.specs.declared.entries.Entry.{Entry}
 use Rattle.entry_pages.specs.declared.entries.Mark.TheVariants as mark
 use Rattle.tree_walk.proofs.Lined.{Lined}
-use Rattle.tree_walk.specs.Walk.{Answer, told, stat_failed, list_failed, Answers, all_told, entry_of, children_of, walk_down, walk, paths_of, weight}
-use Rattle.tree_walk.specs.Walk.{weight_of, answer_in, answers_in, WalkIsRecursive, WalkAscends, WalkHasEachPathOnce, WalkFindsAll, WalkWithoutFaultsIsFine}
+use Rattle.tree_walk.specs.Walk.{walk}
 use Rattle.tree_walk.proofs.Nodes.{not_none}
 use Rattle.tree_walk.proofs.Lists.{all_map, all_flat, sorted_append, swapped}
 use Rattle.tree_walk.proofs.Same.{unequal}
 use Rattle.tree_walk.proofs.Recursive.{walk_is, children_are, of_children}
-use Rattle.flat_list.proofs.Pieces.{all_join}
 
 pub walk_is_recursive : WalkIsRecursive
 walk_is_recursive files a path t v = walk_is files a path t (parts.short path v)

@@ -1,9 +1,6 @@
 -- Paths that stand in line: each, with all that is under it, comes before those behind it.
+use Rattle.tree_walk.proofs.Prelude.{AllByRecursion, Less, path_cmp, precedes}
 use Rattle.std.specs.Prelude.{◌≡◌, ℕ, true, ◌<◌, List, [], ◌∷◌, length}
-use Rattle.std.specs.List.{AllByRecursion}
-use Rattle.std.specs.declared.cmp.Ordering.TheVariants.{Less}
-use Rattle.path_text.specs.Order.{path_cmp}
-use Rattle.path_text.proofs.Preorder.{precedes}
 
 -- each path, with all that is under it, comes before those behind it
 abbrev pub Lined : List (List ℕ) → Type 0

@@ -1,11 +1,6 @@
 -- Facts of each element of a list, and lists that ascend.
-use Rattle.std.proofs.Common.{◌≡◌, List, [], ◌∷◌, ◌++◌, map, refl}
-use Rattle.std.specs.List.{AllByRecursion, flat_map}
+use Rattle.tree_walk.proofs.Prelude.{◌≡◌, List, [], ◌∷◌, ◌++◌, map, refl, AllByRecursion, flat_map, Ordering, Less, all_weaker, all_join}
 use Rattle.std.specs.List.Sorted.{IsStrictlySortedBy}
-use Rattle.std.specs.declared.cmp.Ordering.{Ordering}
-use Rattle.std.specs.declared.cmp.Ordering.TheVariants.{Less}
-use Rattle.outside.proofs.Names.{all_weaker}
-use Rattle.flat_list.proofs.Pieces.{all_join}
 
 pub all_parts : {X : Type 0} (P : X → Type 0) (xs ys : List X) → AllByRecursion P (xs ++ ys) → AllByRecursion P xs × AllByRecursion P ys
 all_parts P [] ys h = (tt, h)

@@ -1,33 +1,14 @@
 -- What a look gives, by the answers of the files.
-use Rattle.std.proofs.Common.{◌≡◌, ◌≢◌, ℕ, ◌≤◌, Bool, true, false, ◌&&◌, ◌||◌, List, [], map, length, cond, refl, ap, ◌∙◌, sym, arith, Option, Some, None}
-use Rattle.std.proofs.Common.{IfSome}
-use Rattle.std.specs.Prelude.{◌==◌, Result, Ok, Err, IfOk, OnOk, OnErr, IsErrOf}
-use Rattle.std.specs.Option.{option_map}
-use Rattle.std.specs.FinMap.{get}
-use Rattle.std.proofs.Math.Bool.{or-true}
-use Rattle.std.proofs.lemmas.Bool.{false≢true, and_from}
-use Rattle.path_text.specs.Path.{joined}
-use Rattle.outside.specs.Tree.{Files, Node, Body, dir, file, link, other, IsTree, Lists, AreNames, is_dir, stat_of, far_of, text_of, link_at, names_in}
-use Rattle.outside.specs.Count.{RoseBy}
-use Rattle.outside.specs.declared.failures.Failed.{Failed}
-use Rattle.outside.specs.declared.listings.Listing.{Listing}
-use Rattle.outside.specs.declared.trees.ListError.{ListError}
+use Rattle.tree_walk.proofs.Prelude.{◌≡◌, ◌≢◌, ℕ, ◌≤◌, Bool, true, false, ◌&&◌, ◌||◌, List, [], map, length, cond, refl, ap, ◌∙◌, sym, arith, Option, Some}
+use Rattle.tree_walk.proofs.Prelude.{None, IfSome, ◌==◌, Result, Ok, Err, IfOk, OnOk, OnErr, IsErrOf, option_map, get, or-true, false≢true, and_from, joined}
+use Rattle.tree_walk.proofs.Prelude.{Files, Node, Body, dir, file, link, other, IsTree, Lists, AreNames, is_dir, stat_of, far_of, text_of, link_at, names_in}
+use Rattle.tree_walk.proofs.Prelude.{RoseBy, Failed, Listing, ListError, LinkError, Kind, Stat, Entry, Mark, is_kind, is_shaped, bare, told, list_failed}
+use Rattle.tree_walk.proofs.Prelude.{entry_of, weight_of, IsDone, is_listed, by_stat, by_link, by_list, is_linked, IsLook, both_first, and_false}
 use Rattle.outside.specs.declared.trees.ListError.TheVariants as list
-use Rattle.outside.specs.declared.trees.LinkError.{LinkError}
 use Rattle.outside.specs.declared.trees.LinkError.TheVariants as link_e
-use Rattle.outside.specs.declared.trees.Kind.{Kind}
 use Rattle.outside.specs.declared.trees.Kind.TheVariants as kind
-use Rattle.outside.specs.declared.trees.Stat.{Stat}
-use Rattle.entry_pages.specs.declared.entries.Entry.{Entry}
-use Rattle.entry_pages.specs.declared.entries.Mark.{Mark}
 use Rattle.entry_pages.specs.declared.entries.Mark.TheVariants as mark
-use Rattle.entry_pages.specs.Entries.{is_kind, is_shaped}
-use Rattle.tree_walk.specs.Walk.{bare, told, list_failed, entry_of, weight_of}
-use Rattle.tree_walk.specs.Held.{IsDone, is_listed}
-use Rattle.tree_walk.specs.Looking.{by_stat, by_link, by_list, is_linked, IsLook}
 use Rattle.tree_walk.proofs.Names.{no_names}
-use Rattle.circle_run.proofs.Hearing.{both_first}
-use Rattle.path_text.proofs.Told.{and_false}
 
 -- an answer of a stat at a path, over files that may tell a tree and whose count of faults went from old to new
 pub record IsStat (tree : Option Files) (path : List ℕ) (old new : ℕ) (answer : Result (Option Stat) Failed) : Type 0 where

@@ -1,18 +1,9 @@
 -- Paths of children, as they follow from the names in a directory.
-use Rattle.std.proofs.Common.{◌≡◌, ℕ, ◌<◌, ◌≤◌, true, false, List, [], ◌∷◌, ◌++◌, length, map, ap, sym, subst, arith, cond, length-append}
-use Rattle.std.specs.Prelude.{◌==◌}
+use Rattle.tree_walk.proofs.Prelude.{◌≡◌, ℕ, ◌<◌, ◌≤◌, true, false, List, [], ◌∷◌, ◌++◌, length, map, ap, sym, subst, arith, cond, length-append, ◌==◌}
+use Rattle.tree_walk.proofs.Prelude.{AllByRecursion, nat_cmp, slice_cmp, Less, recursion_from_All, All-from_recursion, path_cmp, front, joined, is_name}
+use Rattle.tree_walk.proofs.Prelude.{precedes, front-joined, child_after, child_precedes, sibling_precedes, some_bytes, no_slash, AreNames, all_weaker}
 use Rattle.std.specs.Bool.{IsTrue}
-use Rattle.std.specs.List.{AllByRecursion}
 use Rattle.std.specs.List.Sorted.{IsStrictlySortedBy}
-use Rattle.std.specs.Ordering.{nat_cmp}
-use Rattle.std.specs.Cmp.Lexicographic.{slice_cmp}
-use Rattle.std.specs.declared.cmp.Ordering.TheVariants.{Less}
-use Rattle.std.proofs.lemmas.List.Elements.{recursion_from_All, All-from_recursion}
-use Rattle.path_text.specs.Order.{path_cmp, front}
-use Rattle.path_text.specs.Path.{joined, is_name}
-use Rattle.path_text.proofs.Preorder.{precedes, front-joined, child_after, child_precedes, sibling_precedes, some_bytes, no_slash}
-use Rattle.outside.specs.Tree.{AreNames}
-use Rattle.outside.proofs.Names.{all_weaker}
 use Rattle.tree_walk.proofs.Lined.{Lined, AreChildren}
 use Rattle.tree_walk.proofs.Lists.{all_map}
 

@@ -1,8 +1,5 @@
 -- What is there is not absent.
-use Rattle.std.proofs.Common.{◌≡◌, true, false, Option, Some, None, refl}
-use Rattle.std.specs.Prelude.{is_some, is_none}
-use Rattle.std.proofs.lemmas.Bool.{false≢true}
-use Rattle.outside.specs.Tree.{Node}
+use Rattle.tree_walk.proofs.Prelude.{◌≡◌, true, false, Option, Some, None, refl, is_some, is_none, false≢true, Node}
 
 pub not_none : (o : Option Node) → is_some o ≡ true → is_none o ≡ false
 not_none None e = absurd (false≢true e)

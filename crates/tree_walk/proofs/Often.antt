@@ -1,15 +1,7 @@
 -- What was handled, and the walks of what is left, are the walks of the starts, as often.
-use Rattle.std.proofs.Common.{◌≡◌, ℕ, ◌+◌, List, [], ◌∷◌, refl, ap, ◌∙◌, sym, arith}
-use Rattle.std.specs.List.{AllByRecursion, sum_by, flat_map}
-use Rattle.std.specs.FinMap.{get}
-use Rattle.std.proofs.lemmas.List.Sums.{sum_by-cons}
-use Rattle.outside.specs.Tree.{Files}
-use Rattle.entry_pages.specs.declared.entries.Entry.{Entry}
-use Rattle.circle_run.specs.Balance.{handled, pushed, Balanced}
-use Rattle.tree_walk.specs.Walk.{Answers, answer_in, entry_of, children_of, walk}
-use Rattle.tree_walk.specs.Held.{Held, IsDone, log_of}
+use Rattle.tree_walk.proofs.Prelude.{◌≡◌, ℕ, ◌+◌, List, [], ◌∷◌, refl, ap, ◌∙◌, sym, arith, AllByRecursion, sum_by, flat_map, get, sum_by-cons, Files, Entry}
+use Rattle.tree_walk.proofs.Prelude.{handled, pushed, Balanced, Answers, answer_in, entry_of, children_of, walk, Held, IsDone, log_of, sum_by-flat_map}
 use Rattle.tree_walk.proofs.Recursive.{walk_is}
-use Rattle.circle_run.proofs.Sums.{sum_by-flat_map}
 
 -- the walk of a path weighs what its entry and the walks of its children weigh
 weighs : (files : Files) (a : Answers) (k : Entry → ℕ) (d : Held) → IsDone files d → a d.0.path ≡ answer_in d.0 →

@@ -1,30 +1,13 @@
 -- Each path is handled once.
-use Rattle.std.proofs.Common.{◌≡◌, ℕ, ◌+◌, ◌<◌, ◌≤◌, true, false, List, [], ◌∷◌, map, length, refl, ap, ◌∙◌, sym, arith, cond, get_or}
-use Rattle.std.specs.List.{AllByRecursion, sum_by}
-use Rattle.std.proofs.lemmas.List.Sums.{sum_by-cons, sum_by_more, sum_by_more_le}
-use Rattle.std.proofs.lemmas.Map.Keys.{sorted_from_all_adjacent}
-use Rattle.std.proofs.Math.ListN.{get_or-map}
-use Rattle.std.proofs.lemmas.List.{length-map}
-use Rattle.std.specs.List.Sorted.{IsStrictlySortedBy, IsPermutation, IsSortedByKey}
-use Rattle.std.proofs.lemmas.List.Sorted.{sum_by-IsPermutation}
-use Rattle.std.proofs.lemmas.List.Elements.{recursion_from_All}
-use Rattle.std.specs.Cmp.Lexicographic.{bytes_decides}
-use Rattle.std.specs.Ordering.{is_lt, ordering_reverse}
-use Rattle.std.proofs.lemmas.Bool.{false≢true}
-use Rattle.std.specs.declared.cmp.Ordering.TheVariants.{Less, Equal, Greater}
+use Rattle.tree_walk.proofs.Prelude.{◌≡◌, ℕ, ◌+◌, ◌<◌, ◌≤◌, true, false, List, [], ◌∷◌, map, length, refl, ap, ◌∙◌, sym, arith, cond, get_or, AllByRecursion}
+use Rattle.tree_walk.proofs.Prelude.{sum_by, sum_by-cons, sum_by_more, sum_by_more_le, sorted_from_all_adjacent, get_or-map, length-map, IsPermutation}
+use Rattle.tree_walk.proofs.Prelude.{IsSortedByKey, sum_by-IsPermutation, recursion_from_All, bytes_decides, is_lt, ordering_reverse, false≢true, Less, Equal}
+use Rattle.tree_walk.proofs.Prelude.{Greater, path_cmp, path_cmp_total, path_cmp_same, is_name, some_bytes, Entry, handled, pushed, Balanced, Held, IsPush}
+use Rattle.tree_walk.proofs.Prelude.{log_of, entries_of, is_in_some, Apart, all_weaker, sum_by-map}
 use Rattle.std.specs.Bool.{IsTrue}
-use Rattle.path_text.specs.Order.{path_cmp}
-use Rattle.path_text.specs.Total.{path_cmp_total, path_cmp_same}
-use Rattle.path_text.specs.Path.{is_name}
-use Rattle.path_text.proofs.Preorder.{some_bytes}
-use Rattle.entry_pages.specs.declared.entries.Entry.{Entry}
-use Rattle.circle_run.specs.Balance.{handled, pushed, Balanced}
-use Rattle.tree_walk.specs.Held.{Held, IsPush, log_of, entries_of}
-use Rattle.tree_walk.specs.Roots.{is_in_some, Apart}
+use Rattle.std.specs.List.Sorted.{IsStrictlySortedBy}
 use Rattle.tree_walk.proofs.Covers.{covers, one, covers_falls, from_apart, some_covers}
 use Rattle.tree_walk.proofs.Names.{lined_names}
-use Rattle.outside.proofs.Names.{all_weaker}
-use Rattle.circle_run.proofs.Maps.{sum_by-map}
 
 lengths : (names : List (List ℕ)) → AllByRecursion (λ name. IsTrue (is_name name)) names → AllByRecursion (λ n. 0 < length n) names
 lengths [] h = tt

@@ -1,14 +1,8 @@
 -- Paths that are apart can be put in path order.
-use Rattle.std.proofs.Common.{◌≡◌, ℕ, ◌≤◌, List, [], ◌∷◌, refl, ap, ◌∙◌, arith}
-use Rattle.std.specs.List.{AllByRecursion, sum_by}
-use Rattle.std.specs.List.Sorted.{IsStrictlySortedBy, IsPermutation}
-use Rattle.std.specs.Ordering.{ordering_reverse}
-use Rattle.std.specs.declared.cmp.Ordering.{Ordering}
-use Rattle.std.specs.declared.cmp.Ordering.TheVariants.{Less, Equal, Greater}
-use Rattle.std.proofs.lemmas.List.Sums.{sum_by-cons}
-use Rattle.std.proofs.lemmas.List.Sorted.{sum_by-IsPermutation, IsPermutation-refl, IsPermutation-trans, IsPermutation-cons, IsPermutation-insert}
-use Rattle.path_text.specs.Order.{path_cmp}
-use Rattle.path_text.specs.Total.{path_cmp_total, path_cmp_same}
+use Rattle.tree_walk.proofs.Prelude.{◌≡◌, ℕ, ◌≤◌, List, [], ◌∷◌, refl, ap, ◌∙◌, arith, AllByRecursion, sum_by, IsPermutation, ordering_reverse, Ordering, Less}
+use Rattle.tree_walk.proofs.Prelude.{Equal, Greater, sum_by-cons, sum_by-IsPermutation, IsPermutation-refl, IsPermutation-trans, IsPermutation-cons}
+use Rattle.tree_walk.proofs.Prelude.{IsPermutation-insert, path_cmp, path_cmp_total, path_cmp_same}
+use Rattle.std.specs.List.Sorted.{IsStrictlySortedBy}
 use Rattle.tree_walk.proofs.Covers.{covers, covers-itself}
 use Rattle.tree_walk.proofs.Same.{higher}
 

@@ -1,24 +1,13 @@
 -- Each entry of a walk is one of its roots, or the walk went on with it from its parent, which was listed.
-use Rattle.std.proofs.Common.{◌≡◌, ◌⊎◌, inl, inr, ⊎_elim, ℕ, ◌-◌, ◌<◌, ◌≤◌, true, false, List, [], ◌∷◌, map, length}
-use Rattle.std.proofs.Common.{Option, Some, None, refl, ap, ◌∙◌, sym, subst, cond}
-use Rattle.std.specs.Prelude.{is_some, IsTrue}
-use Rattle.std.specs.List.{AllByRecursion, flat_map, count_by}
-use Rattle.std.specs.FinMap.{get}
-use Rattle.std.proofs.lemmas.Bool.{false≢true}
-use Rattle.std.proofs.lemmas.List.Elements.{recursion_from_All, All-from_recursion, All-contains}
-use Rattle.path_text.specs.Path.{is_name, joined, refusal, parent_of}
-use Rattle.path_text.specs.Order.{front}
-use Rattle.path_text.proofs.Parents.{cut, parent_joined}
-use Rattle.path_text.proofs.Preorder.{front-joined, some_bytes, no_slash}
-use Rattle.outside.specs.Tree.{Files, Node, Body, dir, file, link, other, IsTree, is_dir, is_dir_body, is_root, names_in}
-use Rattle.outside.proofs.Names.{placed_path, children_are_names, all_weaker}
+use Rattle.tree_walk.proofs.Prelude.{◌≡◌, ◌⊎◌, inl, inr, ⊎_elim, ℕ, ◌-◌, ◌<◌, ◌≤◌, true, false, List, [], ◌∷◌, map, length, Option, Some, None, refl, ap, ◌∙◌}
+use Rattle.tree_walk.proofs.Prelude.{sym, subst, cond, is_some, IsTrue, AllByRecursion, flat_map, count_by, get, false≢true, recursion_from_All}
+use Rattle.tree_walk.proofs.Prelude.{All-from_recursion, All-contains, is_name, joined, refusal, parent_of, front, cut, parent_joined, front-joined, some_bytes}
+use Rattle.tree_walk.proofs.Prelude.{no_slash, Files, Node, Body, dir, file, link, other, IsTree, is_dir, is_dir_body, is_root, names_in, placed_path}
+use Rattle.tree_walk.proofs.Prelude.{children_are_names, all_weaker, Entry, is_of, told, stat_failed, list_failed, Answers, entry_of, entry_of_node}
+use Rattle.tree_walk.proofs.Prelude.{children_of, is_in, IsTold, ParentsAreListed, dir_is_there}
 use Rattle.outside.specs.declared.trees.Kind.TheVariants as kind
-use Rattle.entry_pages.specs.declared.entries.Entry.{Entry}
 use Rattle.entry_pages.specs.declared.entries.Mark.TheVariants as mark
-use Rattle.entry_pages.specs.Entries.{is_of}
-use Rattle.tree_walk.specs.Walk.{told, stat_failed, list_failed, Answers, entry_of, entry_of_node, children_of, walk}
-use Rattle.tree_walk.specs.Roots.{is_in}
-use Rattle.tree_walk.specs.Told.{IsTold, ParentsAreListed}
+use Rattle.tree_walk.specs.Walk.{walk}
 use Rattle.tree_walk.proofs.Nodes.{not_none}
 use Rattle.tree_walk.proofs.Lists.{all_flat, all_map}
 use Rattle.tree_walk.proofs.Covers.{child_covers, child_not_above}
@@ -27,7 +16,6 @@ use Rattle.tree_walk.proofs.Lawful.{walk_entries}
 use Rattle.tree_walk.proofs.Inside.{begins-itself, is_in_is, in_itself, in_trans}
 use Rattle.tree_walk.proofs.Standing.{In, Above, only, of_all, each_in}
 use Rattle.tree_walk.proofs.Told.{entries_are_told}
-use Rattle.outside.proofs.Leased.{dir_is_there}
 
 -- ---- nodes of a tree
 

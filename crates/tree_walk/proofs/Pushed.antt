@@ -1,10 +1,7 @@
 -- The names below a path, and their paths.
-use Rattle.std.proofs.Common.{◌≡◌, ℕ, ◌+◌, ◌<◌, ◌≤◌, List, [], ◌∷◌, ◌++◌, map, length, get_or, take, Some, ap, ◌∙◌, sym, subst, arith, append_assoc, add-one}
-use Rattle.std.specs.List.{slice_get, All}
-use Rattle.std.proofs.lemmas.Option.{get_or_from_slice_get, slice_get_within}
-use Rattle.std.proofs.lemmas.List.{map-append}
-use Rattle.std.proofs.Math.Seq.{take-suc}
-use Rattle.path_text.specs.Path.{joined}
+use Rattle.tree_walk.proofs.Prelude.{◌≡◌, ℕ, ◌+◌, ◌<◌, ◌≤◌, List, [], ◌∷◌, ◌++◌, map, length, get_or, take, Some, ap, ◌∙◌, sym, subst, arith, append_assoc}
+use Rattle.tree_walk.proofs.Prelude.{add-one, All, get_or_from_slice_get, slice_get_within, map-append, take-suc, joined}
+use Rattle.std.specs.List.{slice_get}
 
 -- one more path is pushed
 pub pushed_more : (path : List ℕ) (names : List (List ℕ)) (at : ℕ) (old now new : List (List ℕ)) (child name : List ℕ) →

@@ -1,32 +1,13 @@
 -- What the jobs of all ranks hold together.
-use Rattle.std.proofs.Common.{◌≡◌, ℕ, ◌+◌, ◌-◌, ◌^◌, ◌<◌, min, true, List, [], ◌∷◌, ◌++◌, map, length, refl, ap, ◌∙◌, sym, subst, arith, Option, Some, None}
-use Rattle.std.proofs.Common.{IfSome, length-append, append-nil}
-use Rattle.std.specs.List.{AllByRecursion, sum_by, flat_map}
-use Rattle.std.specs.List.Sorted.{IsPermutation, IsSortedByKey}
-use Rattle.path_text.specs.Order.{path_cmp}
-use Rattle.std.proofs.lemmas.List.Sorted.{sum_by-IsPermutation}
-use Rattle.std.proofs.lemmas.List.Sums.{sum_by-cons, sum_by-append}
-use Rattle.std.proofs.lemmas.List.Concat.{flat_map-append}
-use Rattle.std.proofs.lemmas.List.Elements.{All-from_recursion}
-use Rattle.std.proofs.lemmas.List.{map-append, length-map}
-use Rattle.outside.specs.Tree.{Files, IsTree}
-use Rattle.outside.specs.Count.{RoseBy, capped}
-use Rattle.outside.proofs.Names.{all_weaker}
-use Rattle.entry_pages.specs.declared.entries.Entry.{Entry}
-use Rattle.entry_pages.specs.Entries.{is_shaped}
-use Rattle.circle_run.specs.Balance.{Balanced}
-use Rattle.circle_run.specs.declared.outcomes.Share.{Share}
-use Rattle.tree_walk.specs.Walk.{weight_of}
-use Rattle.tree_walk.specs.Roots.{is_in_some, Apart}
-use Rattle.tree_walk.specs.Held.{Held, IsDone, IsPush, Holds, log_of, entries_of}
-use Rattle.tree_walk.specs.Found.{IsFound, IsWalkOf}
-use Rattle.tree_walk.specs.Cut.{IsCut, IsCutFound}
+use Rattle.tree_walk.proofs.Prelude.{◌≡◌, ℕ, ◌+◌, ◌-◌, ◌^◌, ◌<◌, min, true, List, [], ◌∷◌, ◌++◌, map, length, refl, ap, ◌∙◌, sym, subst, arith, Option, Some}
+use Rattle.tree_walk.proofs.Prelude.{None, IfSome, length-append, append-nil, AllByRecursion, sum_by, flat_map, IsPermutation, IsSortedByKey, path_cmp}
+use Rattle.tree_walk.proofs.Prelude.{sum_by-IsPermutation, sum_by-cons, sum_by-append, flat_map-append, All-from_recursion, map-append, length-map, Files}
+use Rattle.tree_walk.proofs.Prelude.{IsTree, RoseBy, capped, all_weaker, Entry, is_shaped, Balanced, Share, weight_of, is_in_some, Apart, Held, IsDone, IsPush}
+use Rattle.tree_walk.proofs.Prelude.{Holds, log_of, entries_of, IsFound, IsWalkOf, IsCut, IsCutFound, sum_by-ones, sum_by-map}
 use Rattle.tree_walk.proofs.Lists.{all_flat}
 use Rattle.tree_walk.proofs.Once.{IsGathered, list_rises, list_within}
 use Rattle.tree_walk.proofs.AnyOrder.{whole, valid_files, moved, to_entries}
 use Rattle.tree_walk.proofs.Cuts.{is_cut, valid_done, gathered_beside, left_apart, done_beside, all_within}
-use Rattle.circle_run.proofs.Sums.{sum_by-ones}
-use Rattle.circle_run.proofs.Maps.{sum_by-map}
 
 pub all_logs : {R : Type 0} (jobs : List (R × List Held)) → flat_map (λ job. log_of job.1) jobs ≡ log_of (flat_map (λ job. job.1) jobs)
 all_logs [] = refl

@@ -1,11 +1,8 @@
 -- The walk's definition, one step at a time.
-use Rattle.std.proofs.Common.{◌≡◌, ℕ, ◌+◌, ◌-◌, ◌<◌, ◌≤◌, true, false, List, [], ◌∷◌, map, length, ap, ◌∙◌, arith, zero, suc, cond}
-use Rattle.std.specs.List.{AllByRecursion, flat_map}
-use Rattle.std.specs.FinMap.{get}
-use Rattle.path_text.specs.Path.{joined}
-use Rattle.outside.specs.Tree.{Files, IsTree, names_in, is_dir}
-use Rattle.outside.proofs.Names.{children_are_names, all_weaker}
-use Rattle.tree_walk.specs.Walk.{Answer, told, stat_failed, list_failed, Answers, entry_of, children_of, walk_down, walk}
+use Rattle.tree_walk.proofs.Prelude.{◌≡◌, ℕ, ◌+◌, ◌-◌, ◌<◌, ◌≤◌, true, false, List, [], ◌∷◌, map, length, ap, ◌∙◌, arith, zero, suc, cond, AllByRecursion}
+use Rattle.tree_walk.proofs.Prelude.{flat_map, get, joined, Files, IsTree, names_in, is_dir, children_are_names, all_weaker, Answer, told, stat_failed}
+use Rattle.tree_walk.proofs.Prelude.{list_failed, Answers, entry_of, children_of, walk_down}
+use Rattle.tree_walk.specs.Walk.{walk}
 use Rattle.tree_walk.proofs.Lined.{AreChildren}
 use Rattle.tree_walk.proofs.Lists.{flat_same, both}
 use Rattle.tree_walk.proofs.Names.{are_children, short_children}

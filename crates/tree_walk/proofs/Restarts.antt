@@ -1,23 +1,13 @@
 -- A walk that was cut goes on from what is left.
-use Rattle.std.proofs.Common.{◌≡◌, ℕ, ◌+◌, ◌-◌, ◌≤◌, List, [], ◌∷◌, ◌++◌, map, length, refl, ap, ◌∙◌, sym, subst, arith, zero, suc, None}
-use Rattle.std.specs.List.{AllByRecursion, sum_by, flat_map}
-use Rattle.std.specs.FinMap.{get}
-use Rattle.std.specs.List.Sorted.{IsStrictlySortedBy, IsPermutation}
-use Rattle.std.proofs.lemmas.List.Sums.{sum_by-cons, sum_by-append}
-use Rattle.std.proofs.lemmas.List.Sorted.{sum_by-IsPermutation, IsPermutation-sym}
-use Rattle.std.proofs.lemmas.List.Elements.{recursion_from_All, All-from_recursion}
-use Rattle.path_text.specs.Path.{refusal, joined}
-use Rattle.path_text.specs.Order.{path_cmp}
-use Rattle.outside.specs.Tree.{Files, IsTree, AreNames, names_in}
-use Rattle.outside.proofs.Names.{children_are_names, all_weaker}
+use Rattle.tree_walk.proofs.Prelude.{◌≡◌, ℕ, ◌+◌, ◌-◌, ◌≤◌, List, [], ◌∷◌, ◌++◌, map, length, refl, ap, ◌∙◌, sym, subst, arith, zero, suc, None, AllByRecursion}
+use Rattle.tree_walk.proofs.Prelude.{sum_by, flat_map, get, IsStrictlySortedBy, IsPermutation, sum_by-cons, sum_by-append, sum_by-IsPermutation}
+use Rattle.tree_walk.proofs.Prelude.{IsPermutation-sym, recursion_from_All, All-from_recursion, refusal, joined, path_cmp, Files, IsTree, AreNames, names_in}
+use Rattle.tree_walk.proofs.Prelude.{children_are_names, all_weaker, Entry, Balanced, Answer, Answers, bare, answer_in, answers_in, entry_of, children_of}
+use Rattle.tree_walk.proofs.Prelude.{walk_down, paths_of, Held, IsDone, IsPush, log_of, Apart, IsCut, IsJoined, RestartIsWalk, CutGoesOn, LeftIsApart, log_by}
+use Rattle.tree_walk.proofs.Prelude.{sum_by-flat_map, sum_by-map, all_join}
 use Rattle.path_text.proofs.Parts as parts
-use Rattle.entry_pages.specs.declared.entries.Entry.{Entry}
-use Rattle.circle_run.specs.Balance.{Balanced}
 use Rattle.entry_pages.specs.declared.entries.Mark.TheVariants as mark
-use Rattle.tree_walk.specs.Walk.{Answer, Answers, bare, answer_in, answers_in, entry_of, children_of, walk_down, walk, paths_of}
-use Rattle.tree_walk.specs.Held.{Held, IsDone, IsPush, log_of}
-use Rattle.tree_walk.specs.Roots.{Apart}
-use Rattle.tree_walk.specs.Cut.{IsCut, IsJoined, RestartIsWalk, CutGoesOn, LeftIsApart, log_by}
+use Rattle.tree_walk.specs.Walk.{walk}
 use Rattle.tree_walk.proofs.Lists.{all_parts}
 use Rattle.tree_walk.proofs.Names.{no_names}
 use Rattle.tree_walk.proofs.Recursive.{of_children, children_short}
@@ -29,9 +19,6 @@ use Rattle.tree_walk.proofs.Lawful.{IsOwn, path_is, walks_ascend, walks_own}
 use Rattle.tree_walk.proofs.AnyOrder.{Tells, tells_itself, by_path, moved}
 use Rattle.tree_walk.proofs.Cuts.{kids, handled_by, pushed_by, rebalanced, Beside, left_apart, done_beside}
 use Rattle.tree_walk.proofs.Ordered.{in_order}
-use Rattle.circle_run.proofs.Sums.{sum_by-flat_map}
-use Rattle.circle_run.proofs.Maps.{sum_by-map}
-use Rattle.flat_list.proofs.Pieces.{all_join}
 
 -- ---- the done entries of a cut, as a job would hold them
 

@@ -1,23 +1,13 @@
 -- What is left of paths in path order, where each that is in the last one kept is dropped, are their roots.
-use Rattle.std.proofs.Common.{◌≡◌, ℕ, ◌+◌, Bool, true, false, ◌&&◌, ◌||◌, List, [], ◌∷◌, get_or, refl, ap, ◌∙◌, sym, subst, arith, cond, suc}
-use Rattle.std.specs.Prelude.{◌==◌, nat_lt}
-use Rattle.std.specs.List.{AllByRecursion, Contains, dedup, dedup_from}
-use Rattle.std.specs.List.Sorted.{IsSorted, IsStrictlySortedBy, IsPermutation}
-use Rattle.std.specs.Ordering.{nat_cmp, ordering_then, is_lt, ordering_reverse}
-use Rattle.std.specs.declared.cmp.Ordering.{Ordering}
-use Rattle.std.specs.declared.cmp.Ordering.TheVariants.{Less, Equal, Greater}
-use Rattle.std.proofs.lemmas.Bool.{false≢true, or_right}
-use Rattle.std.proofs.lemmas.Bool.Decides.{nat_tests}
-use Rattle.std.proofs.lemmas.List.Sorted.{IsPermutation-sym, All-permutation, sorted_far, ranks_by}
-use Rattle.std.proofs.lemmas.List.Elements.{recursion_from_All, All-from_recursion, All-contains_itself}
-use Rattle.path_text.specs.Order.{path_cmp, byte_rank, front}
-use Rattle.path_text.proofs.Preorder.{before_all, precedes, precedes-Less}
-use Rattle.path_text.specs.Total.{path_cmp_total, path_cmp_same}
-use Rattle.tree_walk.specs.Roots.{is_in, is_in_some, IsRoots}
+use Rattle.tree_walk.proofs.Prelude.{◌≡◌, ℕ, ◌+◌, Bool, true, false, ◌&&◌, ◌||◌, List, [], ◌∷◌, get_or, refl, ap, ◌∙◌, sym, subst, arith, cond, suc, ◌==◌}
+use Rattle.tree_walk.proofs.Prelude.{nat_lt, AllByRecursion, Contains, dedup, dedup_from, IsSorted, IsPermutation, nat_cmp, ordering_then, is_lt}
+use Rattle.tree_walk.proofs.Prelude.{ordering_reverse, Ordering, Less, Equal, Greater, false≢true, or_right, nat_tests, IsPermutation-sym, All-permutation}
+use Rattle.tree_walk.proofs.Prelude.{sorted_far, ranks_by, recursion_from_All, All-from_recursion, All-contains_itself, path_cmp, byte_rank, front, before_all}
+use Rattle.tree_walk.proofs.Prelude.{precedes, precedes-Less, path_cmp_total, path_cmp_same, is_in, is_in_some, IsRoots, all_weaker}
+use Rattle.std.specs.List.Sorted.{IsStrictlySortedBy}
 use Rattle.tree_walk.proofs.Lined.{Lined}
 use Rattle.tree_walk.proofs.Inside.{is_in_is, in_itself, in_trans}
 use Rattle.tree_walk.proofs.Covers.{in_line, one_covers, to_apart}
-use Rattle.outside.proofs.Names.{all_weaker}
 
 -- ---- what comes before y, with all that is under it, comes before what follows y
 

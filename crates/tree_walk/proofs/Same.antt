@@ -1,13 +1,7 @@
 -- Two lists in order that hold the same paths as often are equal.
-use Rattle.std.proofs.Common.{◌≡◌, ℕ, false, List, [], ◌∷◌, refl, ap, ◌∙◌, sym, arith, cond, eqb}
-use Rattle.std.specs.List.{AllByRecursion, sum_by}
-use Rattle.std.proofs.lemmas.List.Sums.{sum_by-cons}
+use Rattle.tree_walk.proofs.Prelude.{◌≡◌, ℕ, false, List, [], ◌∷◌, refl, ap, ◌∙◌, sym, arith, cond, eqb, AllByRecursion, sum_by, sum_by-cons, pointwise, is_eq}
+use Rattle.tree_walk.proofs.Prelude.{ordering_reverse, Less, Equal, Greater, path_cmp, path_cmp_total, path_cmp_same, path_cmp_ties}
 use Rattle.std.specs.List.Sorted.{IsStrictlySortedBy}
-use Rattle.std.specs.Cmp.Lexicographic.{pointwise}
-use Rattle.std.specs.Ordering.{is_eq, ordering_reverse}
-use Rattle.std.specs.declared.cmp.Ordering.TheVariants.{Less, Equal, Greater}
-use Rattle.path_text.specs.Order.{path_cmp}
-use Rattle.path_text.specs.Total.{path_cmp_total, path_cmp_same, path_cmp_ties}
 use Rattle.tree_walk.proofs.Covers.{one}
 use Rattle.tree_walk.proofs.Once.{one-same}
 

@@ -1,11 +1,7 @@
 -- What stands in a list of paths, and what is in one that does.
-use Rattle.std.proofs.Common.{◌≡◌, ◌⊎◌, inl, inr, ⊎_elim, ℕ, ◌<◌, ◌≤◌, Bool, true, false, ◌||◌, List, [], ◌∷◌, length, get_or, zero, suc, cond, refl, ap, ◌∙◌}
-use Rattle.std.proofs.Common.{sym, subst, arith}
-use Rattle.std.specs.List.{AllByRecursion, Contains, list_any, count_by}
-use Rattle.std.proofs.lemmas.Bool.{false≢true}
-use Rattle.std.proofs.lemmas.List.Sums.{sum_by-cons}
-use Rattle.tree_walk.specs.Roots.{is_in, is_in_some}
-use Rattle.outside.proofs.Names.{all_weaker}
+use Rattle.tree_walk.proofs.Prelude.{◌≡◌, ◌⊎◌, inl, inr, ⊎_elim, ℕ, ◌<◌, ◌≤◌, Bool, true, false, ◌||◌, List, [], ◌∷◌, length, get_or, zero, suc, cond, refl, ap}
+use Rattle.tree_walk.proofs.Prelude.{◌∙◌, sym, subst, arith, AllByRecursion, Contains, list_any, count_by, false≢true, sum_by-cons, is_in, is_in_some}
+use Rattle.tree_walk.proofs.Prelude.{all_weaker}
 
 abbrev pub In : List ℕ → List (List ℕ) → Type 0
 In x [] = ⊥

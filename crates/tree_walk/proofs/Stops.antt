@@ -1,17 +1,8 @@
 -- What a stop tells of the shares.
-use Rattle.std.proofs.Common.{◌≡◌, ◌⊎◌, ⊎_elim, ℕ, ◌-◌, ◌^◌, ◌<◌, ◌≤◌, min, List, [], ◌∷◌, map, length, get_or, drop, refl, ap, arith, zero, suc}
-use Rattle.std.proofs.Common.{Option, Some, None, IfSome}
-use Rattle.std.specs.Prelude.{Vec}
-use Rattle.std.specs.Option.{unwrap_or}
-use Rattle.std.specs.List.{AllByRecursion, All, Any}
-use Rattle.std.specs.declared.alloc.Global.{Global}
-use Rattle.std.proofs.lemmas.List.Elements.{recursion_from_All, All-from_recursion}
-use Rattle.circle_run.specs.Left.{all_left}
-use Rattle.circle_run.specs.declared.outcomes.Share.{Share}
-use Rattle.tree_walk.specs.declared.reports.Walked.{Walked}
+use Rattle.tree_walk.proofs.Prelude.{◌≡◌, ◌⊎◌, ⊎_elim, ℕ, ◌-◌, ◌^◌, ◌<◌, ◌≤◌, min, List, [], ◌∷◌, map, length, get_or, drop, refl, ap, arith, zero, suc, Option}
+use Rattle.tree_walk.proofs.Prelude.{Some, None, IfSome, Vec, unwrap_or, AllByRecursion, All, Any, Global, recursion_from_All, All-from_recursion, all_left}
+use Rattle.tree_walk.proofs.Prelude.{Share, Walked, Held, log_of, IfCut}
 use Rattle.tree_walk.specs.declared.reports.Walked.TheVariants as walked
-use Rattle.tree_walk.specs.Held.{Held, log_of}
-use Rattle.tree_walk.specs.Cut.{IfCut}
 
 -- the shares tell how many strings the jobs handled, as far as a count goes
 abbrev pub Counted : {R : Type 0} → List (R × List Held) → List Share → Type 0

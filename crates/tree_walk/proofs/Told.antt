@@ -1,13 +1,7 @@
 -- What the entries of a walk tell of the tree.
-use Rattle.std.proofs.Common.{◌≡◌, ℕ, List, Option, Some, None, refl, sym, subst}
-use Rattle.std.specs.List.{All, AllByRecursion, flat_map}
-use Rattle.std.specs.FinMap.{get}
-use Rattle.std.proofs.lemmas.List.Elements.{All-from_recursion}
-use Rattle.outside.specs.Tree.{Files, Node, Body, dir, file, link, other}
-use Rattle.outside.proofs.Names.{all_weaker}
-use Rattle.entry_pages.specs.declared.entries.Entry.{Entry}
-use Rattle.tree_walk.specs.Walk.{Answer, told, stat_failed, list_failed, Answers, entry_of, entry_of_node, walk}
-use Rattle.tree_walk.specs.Told.{stat_by, StandsBy, far_by, target_by, IsTold, EntriesAreTold}
+use Rattle.tree_walk.proofs.Prelude.{◌≡◌, ℕ, List, Option, Some, None, refl, sym, subst, All, AllByRecursion, flat_map, get, All-from_recursion, Files, Node}
+use Rattle.tree_walk.proofs.Prelude.{Body, dir, file, link, other, all_weaker, Entry, Answer, told, stat_failed, list_failed, Answers, entry_of, entry_of_node}
+use Rattle.tree_walk.proofs.Prelude.{walk, stat_by, StandsBy, far_by, target_by, IsTold, EntriesAreTold}
 use Rattle.tree_walk.proofs.Lawful.{IsOwn, walk_own, walks_own}
 
 -- what an entry tells of the node at its path, if there is one

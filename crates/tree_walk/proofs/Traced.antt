@@ -1,22 +1,8 @@
 -- What the events and the numbers of progress of a run tell of the walk.
-use Rattle.std.proofs.Common.{◌≡◌, ℕ, true, cond, ◌^◌, ◌<◌, List, [], ◌∷◌, ◌++◌, map, length, refl, ap, ◌∙◌, sym, subst, arith, Option, Some, None, IfSome}
-use Rattle.std.specs.List.{AllByRecursion, All, sum_by, flat_map}
-use Rattle.std.specs.List.Sorted.{IsPermutation}
-use Rattle.std.proofs.lemmas.List.Sorted.{IsPermutation-map}
-use Rattle.std.proofs.lemmas.List.Sums.{sum_by-cons, sum-map}
-use Rattle.std.proofs.lemmas.List.Folds.{flat_map-map}
-use Rattle.std.proofs.lemmas.List.Elements.{All-from_recursion}
-use Rattle.std.proofs.lemmas.List.{length-map}
-use Rattle.outside.specs.Tree.{Files}
-use Rattle.ring_core.specs.declared.events.Event.{Event}
-use Rattle.entry_pages.specs.declared.entries.Entry.{Entry}
-use Rattle.circle_run.specs.Balance.{Log}
-use Rattle.circle_run.specs.Traced.{IsTraced, WasRun, IsProgress}
-use Rattle.circle_run.specs.declared.outcomes.Share.{Share}
-use Rattle.circle_run.specs.declared.settings.Options.{Options}
-use Rattle.tree_walk.specs.Walk.{answers_in, answer_in, children_of, paths_of}
-use Rattle.tree_walk.specs.Held.{Held, IsDone, log_of, entries_of}
-use Rattle.tree_walk.specs.Traced.{whole_log, IsTracedWalk, WasWalked, IsProgressTo}
+use Rattle.tree_walk.proofs.Prelude.{◌≡◌, ℕ, true, cond, ◌^◌, ◌<◌, List, [], ◌∷◌, ◌++◌, map, length, refl, ap, ◌∙◌, sym, subst, arith, Option, Some, None}
+use Rattle.tree_walk.proofs.Prelude.{IfSome, AllByRecursion, All, sum_by, flat_map, IsPermutation, IsPermutation-map, sum_by-cons, sum-map, flat_map-map}
+use Rattle.tree_walk.proofs.Prelude.{All-from_recursion, length-map, Files, Event, Entry, Log, IsTraced, WasRun, IsProgress, Share, Options, answers_in}
+use Rattle.tree_walk.proofs.Prelude.{answer_in, children_of, paths_of, Held, IsDone, log_of, entries_of, whole_log, IsTracedWalk, WasWalked, IsProgressTo}
 use Rattle.tree_walk.proofs.AnyOrder.{tells_each}
 use Rattle.tree_walk.proofs.Once.{list_rises}
 use Rattle.tree_walk.proofs.Ranks.{IsRun, all_logs, all_done, all_handled}

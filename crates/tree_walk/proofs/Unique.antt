@@ -1,16 +1,9 @@
 -- The roots of given paths are unique.
-use Rattle.std.proofs.Common.{◌≡◌, inl, inr, ⊎_elim, ℕ, true, List, [], ◌∷◌, None, refl, ◌∙◌, sym, subst}
-use Rattle.std.specs.List.{AllByRecursion, Contains}
+use Rattle.tree_walk.proofs.Prelude.{◌≡◌, inl, inr, ⊎_elim, ℕ, true, List, [], ◌∷◌, None, refl, ◌∙◌, sym, subst, AllByRecursion, Contains, Less}
+use Rattle.tree_walk.proofs.Prelude.{recursion_from_All, refusal, path_cmp, path_cmp_total, is_in, is_in_some, IsRoots, RootsAreUnique, irreflexive}
 use Rattle.std.specs.List.Sorted.{IsStrictlySortedBy}
-use Rattle.std.specs.declared.cmp.Ordering.TheVariants.{Less}
-use Rattle.std.proofs.lemmas.List.Elements.{recursion_from_All}
-use Rattle.path_text.specs.Path.{refusal}
-use Rattle.path_text.specs.Order.{path_cmp}
-use Rattle.path_text.specs.Total.{path_cmp_total}
-use Rattle.tree_walk.specs.Roots.{is_in, is_in_some, IsRoots, RootsAreUnique}
 use Rattle.tree_walk.proofs.Inside.{in_itself, in_trans, in_both_ways}
 use Rattle.tree_walk.proofs.Standing.{In, in_list, of_all, Above, above, only}
-use Rattle.path_text.proofs.Under.{irreflexive}
 
 -- ---- two lists in order that hold the same paths
 

@@ -1,19 +1,9 @@
 -- A number's digits, read one by one.
-use Rattle.std.proofs.Common.{◌≡◌, ◌≢◌, ℕ, ◌+◌, ◌-◌, ◌*◌, ◌<◌, ◌≤◌, ◌^◌, true, false, eqb, List, length, get_or, take, drop, Some}
-use Rattle.std.proofs.Common.{refl, ap, sym, ◌∙◌, arith}
-use Rattle.std.specs.Str.Parse.{digits_value, AllDigits}
-use Rattle.std.specs.Fmt.{decimal}
-use Rattle.std.specs.Char.{is_ascii_digit}
-use Rattle.std.proofs.lemmas.Bool.Decides.{nat_tests}
-use Rattle.std.proofs.lemmas.Fmt.{decimal-digits_value}
-use Rattle.std.proofs.lemmas.Int.Digits.{digits_more, digits_value_more, digits_value-lt}
-use Rattle.std.proofs.lemmas.List.{length-take-le, get_or-take}
-use Rattle.std.proofs.lemmas.Str.{digit_value_digit}
-use Rattle.std.proofs.lemmas.Str.Parse.{IsNumeralModel, digit_at}
-use native.Mathlib.Nat.{pow-le-pow_right}
-use Rattle.whole_lines.specs.declared.reading.Digits.{Digits}
-use Rattle.whole_lines.specs.Words.{cut, number_of, word_at, ◌>>=◌}
-use Rattle.whole_lines.specs.Private.{IsNumberWord, AreDigits}
+use Rattle.whole_lines.proofs.Prelude.{◌≡◌, ◌≢◌, ℕ, ◌+◌, ◌-◌, ◌*◌, ◌<◌, ◌≤◌, ◌^◌, true, false, eqb, List, length, get_or, take, drop, Some, refl, ap, sym, ◌∙◌}
+use Rattle.whole_lines.proofs.Prelude.{arith, digits_value, AllDigits, decimal, is_ascii_digit, nat_tests, decimal-digits_value, digits_more, digits_value_more}
+use Rattle.whole_lines.proofs.Prelude.{digits_value-lt, length-take-le, get_or-take, digit_value_digit, IsNumeralModel, digit_at, pow-le-pow_right, Digits, cut}
+use Rattle.whole_lines.proofs.Prelude.{number_of, ◌>>=◌, IsNumberWord, AreDigits}
+use Rattle.whole_lines.specs.Words.{word_at}
 use Rattle.whole_lines.proofs.Words.{cut_at}
 use Rattle.whole_lines.proofs.Numbers.{number_again}
 

@@ -1,11 +1,7 @@
 -- The end line is read as what was written, no other text is, and it has no line feed.
-use Rattle.std.proofs.Common.{◌≡◌, ℕ, ◌<◌, ◌^◌, Bool, true, false, cond, List, ◌∷◌, ◌++◌, Some, None, refl, ap, ◌∙◌, arith}
-use Rattle.std.specs.Prelude.{codes}
-use Rattle.std.specs.Str.{bytes_eq}
-use Rattle.std.specs.Fmt.{decimal}
-use Rattle.std.specs.Cmp.Lexicographic.{bytes_decides}
-use Rattle.whole_lines.specs.Lines.{end_text}
-use Rattle.whole_lines.specs.Words.{◌>>=◌, cut, number_of, end_at}
+use Rattle.whole_lines.proofs.Prelude.{◌≡◌, ℕ, ◌<◌, ◌^◌, Bool, true, false, cond, List, ◌∷◌, ◌++◌, Some, None, refl, ap, ◌∙◌, arith, codes, bytes_eq, decimal}
+use Rattle.whole_lines.proofs.Prelude.{bytes_decides, end_text, ◌>>=◌, cut, number_of}
+use Rattle.whole_lines.specs.Words.{end_at}
 use Rattle.whole_lines.proofs.Words.{IsFree, cut_again, cut_takes, bind_some}
 use Rattle.whole_lines.proofs.Numbers.{number_again, number_takes, decimal_free}
 

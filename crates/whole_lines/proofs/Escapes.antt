@@ -1,14 +1,10 @@
 -- A path in UTF-8 is written in UTF-8, and without a line feed.
-use Rattle.std.proofs.Common.{◌≡◌, ℕ, zero, suc, ◌<◌, ◌≤◌, ◌/◌, ◌%◌, Bool, true, false, cond, ◌&&◌, eqb, nat_lt, List, [], ◌∷◌, ◌++◌, length, get_or}
-use Rattle.std.proofs.Common.{IsUtf8, inl, inr, refl, sym, ap₂, subst, arith, append-nil, ltb-true}
-use Rattle.std.proofs.lemmas.Bool.{and_parts, cases_lt, cases_eq}
-use Rattle.std.proofs.lemmas.Bool.Decides.{nat_tests}
-use Rattle.std.proofs.lemmas.Str.{IsUtf8-append, IsUtf8-nil, IsUtf8-encode, encode_ascii, inside_one}
-use Rattle.std.proofs.lemmas.Grind.{flat_map-append}
-use lib.Utf8.{scalar, scalars, encode, encodes, low_scalar}
-use Rattle.path_text.specs.Escape.{escape, escaped, is_escaped, hex_digit}
+use Rattle.whole_lines.proofs.Prelude.{◌≡◌, ℕ, zero, suc, ◌<◌, ◌≤◌, ◌/◌, ◌%◌, Bool, true, false, cond, ◌&&◌, eqb, nat_lt, List, [], ◌∷◌, ◌++◌, length, get_or}
+use Rattle.whole_lines.proofs.Prelude.{inl, inr, refl, sym, ap₂, subst, arith, append-nil, and_parts, cases_lt, cases_eq, nat_tests, IsUtf8-append, IsUtf8-nil}
+use Rattle.whole_lines.proofs.Prelude.{IsUtf8-encode, encode_ascii, inside_one, flat_map-append, scalar, scalars, encode, encodes, low_scalar, escape, escaped}
+use Rattle.whole_lines.proofs.Prelude.{is_escaped, hex_digit, as_itself}
+use Rattle.std.proofs.Common.{IsUtf8, ltb-true}
 use Rattle.whole_lines.proofs.Words.{IsFree}
-use Rattle.path_text.proofs.Readable.{as_itself}
 
 -- ---- UTF-8
 

@@ -1,3 +1,4 @@
+mod Prelude
 pub mod WholeLines
 pub mod Words
 pub mod Numbers

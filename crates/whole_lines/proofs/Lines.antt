@@ -1,13 +1,9 @@
 -- The lines of a text, and texts of whole lines.
-use Rattle.std.proofs.Common.{◌≡◌, ℕ, true, false, cond, eqb, List, [], ◌∷◌, ◌++◌, take, Option, Some, None, refl, ap, sym, ◌∙◌, subst}
-use Rattle.std.proofs.Common.{append_assoc, append-nil}
-use Rattle.std.specs.List.{AllByRecursion, flat_map}
-use Rattle.std.proofs.lemmas.Bool.{false≢true}
-use Rattle.whole_lines.specs.Lines.{line, onto_line, lines_of}
-use Rattle.whole_lines.specs.Words.{cut, onto_word}
+use Rattle.whole_lines.proofs.Prelude.{◌≡◌, ℕ, true, false, cond, eqb, List, [], ◌∷◌, ◌++◌, take, Option, Some, None, refl, ap, sym, ◌∙◌, subst, append_assoc}
+use Rattle.whole_lines.proofs.Prelude.{append-nil, AllByRecursion, flat_map, false≢true, line, onto_line, lines_of, onto_word, exact_unsigned_eq}
+use Rattle.whole_lines.specs.Words.{cut}
 use Rattle.whole_lines.proofs.Words.{IsFree}
 use Rattle.whole_lines.proofs.WholeLines.{cons_parts}
-use Rattle.std.proofs.lemmas.Map.Views.{exact_unsigned_eq}
 
 pub all_more : {A : Type 0} (P : A → Type 0) (xs : List A) (y : A) → AllByRecursion P xs → P y → AllByRecursion P (xs ++ y ∷ [])
 all_more P [] y h p = (p, tt)

@@ -1,21 +1,11 @@
 -- A number's word and its reading, and a path's.
-use Rattle.std.proofs.Common.{◌≡◌, ℕ, zero, suc, ◌<◌, ◌≤◌, ◌^◌, Bool, true, false, cond, ltb, ◌&&◌, List, length, get_or, eqb, Option, Some, None, Result}
-use Rattle.std.proofs.Common.{Ok, Err, refl, ap, sym, ◌∙◌, subst, arith}
-use Rattle.std.specs.Str.{IsUtf8, is_utf8, bytes_eq}
-use Rattle.std.specs.Str.Parse.{digits_value, ParsesUnsigned, AllDigits}
-use Rattle.std.specs.Fmt.{decimal}
-use Rattle.std.specs.Cmp.Lexicographic.{bytes_decides}
-use Rattle.std.proofs.lemmas.Bool.{lt-ltb, ltb-true}
-use Rattle.std.proofs.lemmas.Bool.Decides.{nat_tests}
-use Rattle.std.proofs.lemmas.List.Elements.{recursion_from_All}
-use Rattle.std.proofs.lemmas.Grind.{get_or_default_zero}
-use Rattle.std.proofs.lemmas.Fmt.{decimal_is_IsNumeral, decimal_digit, decimal_nonempty, first_decimal, IsAscii-decimal, decimal-digits_value}
-use Rattle.std.proofs.lemmas.Str.{IsUtf8-from_ascii, is_utf8-from_IsUtf8, IsUtf8-from_is_utf8}
-use Rattle.std.proofs.lemmas.Str.Parse.{IsNumeralModel, digit_at, parse_plain}
-use Rattle.std.specs.Result.{result_ok, OkIff}
-use Rattle.path_text.specs.Escape.{reading}
-use Rattle.whole_lines.specs.Words.{number_of, path_from, ok_of}
-use Rattle.whole_lines.specs.Private.{LeadsNumber}
+use Rattle.whole_lines.proofs.Prelude.{◌≡◌, ℕ, zero, suc, ◌<◌, ◌≤◌, ◌^◌, Bool, true, false, cond, ltb, ◌&&◌, List, length, get_or, eqb, Option, Some, None}
+use Rattle.whole_lines.proofs.Prelude.{Result, Ok, Err, refl, ap, sym, ◌∙◌, subst, arith, IsUtf8, is_utf8, bytes_eq, digits_value, ParsesUnsigned, AllDigits}
+use Rattle.whole_lines.proofs.Prelude.{decimal, bytes_decides, lt-ltb, ltb-true, nat_tests, recursion_from_All, get_or_default_zero, decimal_is_IsNumeral}
+use Rattle.whole_lines.proofs.Prelude.{decimal_digit, decimal_nonempty, first_decimal, IsAscii-decimal, decimal-digits_value, IsUtf8-from_ascii}
+use Rattle.whole_lines.proofs.Prelude.{is_utf8-from_IsUtf8, IsUtf8-from_is_utf8, IsNumeralModel, digit_at, parse_plain, result_ok, OkIff, reading, ok_of}
+use Rattle.whole_lines.proofs.Prelude.{LeadsNumber}
+use Rattle.whole_lines.specs.Words.{number_of, path_from}
 use Rattle.whole_lines.proofs.Words.{IsFree}
 
 pub number_again : (n : ℕ) → n < 2 ^ 64 → number_of (decimal n) ≡ Some n

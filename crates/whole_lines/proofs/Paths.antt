@@ -1,10 +1,7 @@
 -- A path's word is read as what was written, and no other word is.
-use Rattle.std.proofs.Common.{◌≡◌, ℕ, Bool, true, false, cond, List, Some, None, Result, Ok, Err, refl, ap, ◌∙◌}
-use Rattle.std.specs.Str.{IsUtf8, is_utf8}
-use Rattle.path_text.specs.Path.{refusal}
-use Rattle.path_text.specs.Escape.{escape, reading, ReadingUndoesWriting}
-use Rattle.path_text.proofs.Readable.{read_is_path}
-use Rattle.whole_lines.specs.Words.{ok_of, path_from}
+use Rattle.whole_lines.proofs.Prelude.{◌≡◌, ℕ, Bool, true, false, cond, List, Some, None, Result, Ok, Err, refl, ap, ◌∙◌, IsUtf8, is_utf8, refusal, escape}
+use Rattle.whole_lines.proofs.Prelude.{reading, ReadingUndoesWriting, read_is_path, ok_of}
+use Rattle.whole_lines.specs.Words.{path_from}
 use Rattle.whole_lines.proofs.Escapes.{utf8_escape}
 use Rattle.whole_lines.proofs.Numbers.{text_path}
 

@@ -1,11 +1,8 @@
 -- Files of whole lines: the lines of some items, one item behind the other, and an end line. A form says how many lines an item
 -- has, what they are, which item may follow which, and the end line. The lines of such a file tell its items, and a text is
 -- damaged from the first line on with which no file goes on. Our own.
-use Rattle.std.proofs.Common.{◌≡◌, ℕ, zero, suc, ◌+◌, ◌<◌, List, [], ◌∷◌, ◌++◌, length, take, drop, refl, ap, sym, ◌∙◌, subst, arith, append_assoc}
-use Rattle.std.proofs.Common.{length-append}
-use Rattle.std.specs.List.{AllByRecursion, flat_map}
-use Rattle.std.proofs.lemmas.List.{take_at, take-append-drop, append_cancel_left}
-use Rattle.std.proofs.Math.Seq.{take-append-add}
+use Rattle.whole_lines.proofs.Prelude.{◌≡◌, ℕ, zero, suc, ◌+◌, ◌<◌, List, [], ◌∷◌, ◌++◌, length, take, drop, refl, ap, sym, ◌∙◌, subst, arith, append_assoc}
+use Rattle.whole_lines.proofs.Prelude.{length-append, AllByRecursion, flat_map, take_at, take-append-drop, append_cancel_left, take-append-add}
 
 pub record Form (Item : Type 0) : Type 1 where
   -- the lines of an item, and the line behind all items

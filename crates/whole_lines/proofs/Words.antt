@@ -1,17 +1,9 @@
 -- A word and its reading.
-use Rattle.std.proofs.Common.{◌≡◌, ℕ, suc, ◌+◌, ◌<◌, Bool, true, false, not, cond, ltb, eqb, List, [], ◌∷◌, ◌++◌, length, get_or, take, drop, Option}
-use Rattle.std.proofs.Common.{Some, None, refl, ap, sym, ◌∙◌, subst, arith, add-one}
-use Rattle.std.specs.List.{position, position_or_len, AllByRecursion}
-use Rattle.std.proofs.lemmas.Bool.{ltb-false, le-ltb, false_from_ne_true}
-use Rattle.std.proofs.lemmas.Bool.Decides.{nat_tests}
-use Rattle.std.proofs.lemmas.List.{take-append-drop, get_or-take, length-take}
-use Rattle.std.proofs.lemmas.List.Quantifiers.{position-Some}
-use Rattle.std.proofs.lemmas.List.Elements.{recursion_from_All}
-use Rattle.std.proofs.lemmas.Grind.{get_or_default_zero}
-use Rattle.std.proofs.Math.Seq.{drop-cons}
-use Rattle.memchr.specs.Find.{IsFirstByte, is_byte}
-use Rattle.whole_lines.specs.Words.{◌>>=◌, cut, onto_word, word_at}
-use Rattle.std.proofs.lemmas.Map.Views.{exact_unsigned_eq}
+use Rattle.whole_lines.proofs.Prelude.{◌≡◌, ℕ, suc, ◌+◌, ◌<◌, Bool, true, false, not, cond, ltb, eqb, List, [], ◌∷◌, ◌++◌, length, get_or, take, drop, Option}
+use Rattle.whole_lines.proofs.Prelude.{Some, None, refl, ap, sym, ◌∙◌, subst, arith, add-one, position, position_or_len, AllByRecursion, ltb-false, le-ltb}
+use Rattle.whole_lines.proofs.Prelude.{false_from_ne_true, nat_tests, take-append-drop, get_or-take, length-take, position-Some, recursion_from_All}
+use Rattle.whole_lines.proofs.Prelude.{get_or_default_zero, drop-cons, IsFirstByte, is_byte, ◌>>=◌, onto_word, exact_unsigned_eq}
+use Rattle.whole_lines.specs.Words.{cut, word_at}
 
 -- the byte is not among them
 abbrev pub IsFree : ℕ → List ℕ → Type 0
@@ -46,8 +38,11 @@ cut_here : (c b : ℕ) (text word rest : List ℕ) → eqb b c ≡ true → ◌�
     IsCut c (b ∷ text) word rest
 cut_here c b text word rest is e =
     let same = pair_parts ([], text) (word, rest) e in
-    record { parts = ap (λ b. b ∷ text) (exact_unsigned_eq b c is) ∙ ap (λ t. c ∷ t) same.1 ∙ ap (λ w. w ++ c ∷ rest) same.0; free = subst
-        (IsFree c) same.0 tt }
+    record {
+      parts = ap (λ b. b ∷ text) (exact_unsigned_eq b c is) ∙ ap (λ t. c ∷ t) same.1 ∙ ap (λ w. w ++ c ∷ rest) same.0;
+      free = subst
+          (IsFree c) same.0 tt;
+    }
 
 cut_later : (c b : ℕ) (text word rest front : List ℕ) → eqb b c ≡ false → IsCut c text front rest → word ≡ b ∷ front → IsCut c (b ∷ text) word rest
 cut_later c b text word rest front is before e =
@@ -113,9 +108,11 @@ placed_none c text e = no_place c text (by_test (ltb (position_or_len (λ b. eqb
 pub first_some : (c : ℕ) (text : List ℕ) (k : ℕ) → IsFirstByte (is_byte c) text (Some k) →
     (k < length text) × (cut c text ≡ Some (take k text, drop (k + 1) text))
 first_some c text k first =
-    let lt : k < length text = first.0.high in
-    (lt, cut_at c text k lt (exact_unsigned_eq (get_or text k 0) c first.1)
-        (λ j below. false_from_ne_true (eqb (get_or text j 0) c) (first.0.before j (omega arith) below)))
+    let lt : k < length text = first.0.high in (
+      lt,
+      cut_at c text k lt (exact_unsigned_eq (get_or text k 0) c first.1)
+          (λ j below. false_from_ne_true (eqb (get_or text j 0) c) (first.0.before j (omega arith) below)),
+    )
 
 pub first_none : (c : ℕ) (text : List ℕ) → IsFirstByte (is_byte c) text None → cut c text ≡ None
 unfolding cut

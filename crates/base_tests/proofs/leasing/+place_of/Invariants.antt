@@ -1,4 +1,4 @@
-use Rattle.std.proofs.Common.{length}
+use Rattle.base_tests.proofs.Prelude.{length}
 use Rattle.base_tests.proofs.leasing.+place_of.Given as goal
 
 abbrev pub decreases-place_of : goal.decreases-place_of

@@ -1,5 +1,4 @@
-use Rattle.std.proofs.Common.{◌≡◌, length}
-use Rattle.base_tests.specs.Differ.{all_differ}
+use Rattle.base_tests.proofs.Prelude.{◌≡◌, length, all_differ}
 use Rattle.base_tests.proofs.leasing.all_differ.Given as goal
 
 -- the paths that were passed stand nowhere behind themselves

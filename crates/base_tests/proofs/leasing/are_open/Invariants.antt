@@ -1,6 +1,4 @@
-use Rattle.std.proofs.Common.{◌≡◌, ◌<◌, ℕ, List, Some, slice_get, []}
-use Rattle.std.specs.Prelude.{IsTrue}
-use Rattle.outside.specs.Writes.{all_but, is_open}
+use Rattle.base_tests.proofs.Prelude.{◌≡◌, ◌<◌, ℕ, List, Some, slice_get, [], IsTrue, all_but, is_open}
 use Rattle.base_tests.proofs.leasing.are_open.Given as goal
 
 abbrev pub invariant-loop-path : goal.invariant-loop-path

@@ -1,5 +1,4 @@
-use Rattle.std.proofs.Common.{◌≡◌, ◌<◌, ℕ, List, Some, slice_get}
-use Rattle.path_text.specs.Path.{level_of}
+use Rattle.base_tests.proofs.Prelude.{◌≡◌, ◌<◌, ℕ, List, Some, slice_get, level_of}
 use Rattle.base_tests.proofs.leasing.have_level.Given as goal
 
 abbrev pub invariant-loop-path : goal.invariant-loop-path

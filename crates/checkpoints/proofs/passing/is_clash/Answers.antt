@@ -1,8 +1,6 @@
-use Rattle.std.proofs.Common.{◌||◌, ℕ, List, Option, ◌∙◌, ap, sym, Bool}
-use Rattle.checkpoints.specs.Passing.{covered, starts_in}
+use Rattle.checkpoints.proofs.Prelude.{◌||◌, ℕ, List, Option, ◌∙◌, ap, sym, Bool, covered, starts_in, some_bytes}
 use Rattle.checkpoints.proofs.Clashing.{clash_is}
 use Rattle.checkpoints.proofs.passing.is_clash.Goals as goal
-use Rattle.path_text.proofs.Within.{some_bytes}
 
 pub returns-then-covers-clause-clash : goal.returns-then-covers-clause-clash
 returns-then-covers-clause-clash c =

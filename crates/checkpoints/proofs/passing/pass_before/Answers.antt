@@ -1,6 +1,4 @@
-use Rattle.std.proofs.Common.{◌++◌, ◌∙◌, ap, sym, subst, rules, List, ℕ, Option}
-use Rattle.entry_pages.specs.declared.entries.Entry.{Entry}
-use Rattle.checkpoints.specs.Passing.{closed_with, ArePassed}
+use Rattle.checkpoints.proofs.Prelude.{◌++◌, ◌∙◌, ap, sym, subst, rules, List, ℕ, Option, Entry, closed_with, ArePassed}
 use Rattle.checkpoints.proofs.Stepping.{moved_all}
 use Rattle.checkpoints.proofs.Clashing.{Ascend, IsNext, passed_more}
 use Rattle.checkpoints.proofs.passing.pass_before.Goals as goal

@@ -1,5 +1,4 @@
-use Rattle.std.proofs.Common.{◌≡◌, ◌++◌, length}
-use Rattle.checkpoints.specs.Passing.{ArePassed}
+use Rattle.checkpoints.proofs.Prelude.{◌≡◌, ◌++◌, length, ArePassed}
 use Rattle.checkpoints.proofs.passing.pass_before.Given as goal
 
 abbrev pub invariant-loop-entry : goal.invariant-loop-entry

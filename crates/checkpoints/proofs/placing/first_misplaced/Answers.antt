@@ -1,9 +1,5 @@
-use Rattle.std.proofs.Common.{subst, map, arith, List, ℕ, Vec, Global}
-use Rattle.std.specs.List.{flat_map, enumerate_from}
-use Rattle.std.proofs.lemmas.Option.{IfSome_then}
-use Rattle.path_text.specs.declared.paths.Path.{Path}
-use Rattle.checkpoints.specs.Placing.{is_misplaced, IsFirstMisplaced}
-use Rattle.checkpoints.specs.Passing.{IsLowest, IsPlace}
+use Rattle.checkpoints.proofs.Prelude.{subst, map, arith, List, ℕ, Vec, Global, flat_map, enumerate_from, IfSome_then, Path, is_misplaced, IsFirstMisplaced}
+use Rattle.checkpoints.proofs.Prelude.{IsLowest, IsPlace}
 use Rattle.checkpoints.proofs.Placed.{all_placed, number_inside, first_found}
 use Rattle.checkpoints.proofs.placing.first_misplaced.Goals as goal
 

@@ -1,10 +1,4 @@
-use Rattle.std.proofs.Common.{subst, map, List, ℕ, Vec, Global}
-use Rattle.std.specs.List.{flat_map}
-use Rattle.path_text.specs.declared.paths.Path.{Path}
-use Rattle.checkpoints.specs.declared.placing.Left.{Left}
-use Rattle.checkpoints.specs.Placing.{is_misplaced}
-use Rattle.checkpoints.specs.Passing.{paths_in, IsLowest}
-use Rattle.checkpoints.specs.Lefts.{numbered}
+use Rattle.checkpoints.proofs.Prelude.{subst, map, List, ℕ, Vec, Global, flat_map, Path, Left, is_misplaced, paths_in, IsLowest, numbered}
 use Rattle.checkpoints.proofs.Placed.{own_order}
 use Rattle.checkpoints.proofs.placing.first_number.Goals as goal
 

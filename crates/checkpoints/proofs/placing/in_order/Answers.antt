@@ -1,15 +1,6 @@
-use Rattle.std.proofs.Common.{◌++◌, ◌∙◌, ap, sym, subst, rules, map, arith, List, ℕ, Vec, Global}
-use Rattle.std.specs.List.{enumerate_from, flat_map}
-use Rattle.std.specs.List.Sorted.{IsPermutation}
-use Rattle.std.specs.Ordering.{is_lt}
-use Rattle.std.proofs.lemmas.List.{length-map, take_all}
-use Rattle.std.proofs.lemmas.List.Sorted.{ranks_by, answers_always, IsPermutation-map}
-use Rattle.path_text.specs.Order.{path_cmp}
-use Rattle.path_text.specs.Total.{path_cmp_total}
-use Rattle.path_text.specs.declared.paths.Path.{Path}
-use Rattle.checkpoints.specs.declared.placing.Left.{Left}
-use Rattle.checkpoints.specs.Passing.{Numbered}
-use Rattle.checkpoints.specs.Lefts.{numbered}
+use Rattle.checkpoints.proofs.Prelude.{◌++◌, ◌∙◌, ap, sym, subst, rules, map, arith, List, ℕ, Vec, Global, enumerate_from, flat_map, IsPermutation, is_lt}
+use Rattle.checkpoints.proofs.Prelude.{length-map, take_all, ranks_by, answers_always, IsPermutation-map, path_cmp, path_cmp_total, Path, Left, Numbered}
+use Rattle.checkpoints.proofs.Prelude.{numbered}
 use Rattle.checkpoints.proofs.Paired.{pair}
 use Rattle.checkpoints.proofs.Numbers.{at_map, list_more, sorted_map}
 use Rattle.checkpoints.proofs.placing.in_order.Goals as goal

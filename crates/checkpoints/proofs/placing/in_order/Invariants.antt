@@ -1,6 +1,4 @@
-use Rattle.std.proofs.Common.{◌≡◌, map, take}
-use Rattle.std.specs.List.{enumerate_from, flat_map}
-use Rattle.checkpoints.specs.Lefts.{numbered}
+use Rattle.checkpoints.proofs.Prelude.{◌≡◌, map, take, enumerate_from, flat_map, numbered}
 use Rattle.checkpoints.proofs.placing.in_order.Given as goal
 
 abbrev pub invariant-loop-list : goal.invariant-loop-list

@@ -1,9 +1,5 @@
-use Rattle.std.proofs.Common.{◌≡◌, ◌+◌, ◌||◌, ◌∙◌, ap, sym, subst, arith, List, ℕ, Option, Bool}
-use Rattle.std.specs.Option.{option_copied}
-use Rattle.std.proofs.lemmas.List.{length-map, take_all}
-use Rattle.checkpoints.specs.Placing.{is_misplaced}
-use Rattle.checkpoints.specs.Passing.{ArePassed, Numbered, paths_in, top_with, lowest_with, IsLowest}
-use Rattle.checkpoints.specs.Lefts.{numbered}
+use Rattle.checkpoints.proofs.Prelude.{◌≡◌, ◌+◌, ◌||◌, ◌∙◌, ap, sym, subst, arith, List, ℕ, Option, Bool, option_copied, length-map, take_all, is_misplaced}
+use Rattle.checkpoints.proofs.Prelude.{ArePassed, Numbered, paths_in, top_with, lowest_with, IsLowest, numbered}
 use Rattle.checkpoints.proofs.Paired.{pair}
 use Rattle.checkpoints.proofs.Numbers.{at_map}
 use Rattle.checkpoints.proofs.Looked.{State, Stands, IsLook, goes_on, misplaced_is}

@@ -1,5 +1,4 @@
-use Rattle.std.specs.Option.{option_copied}
-use Rattle.checkpoints.specs.Lefts.{numbered}
+use Rattle.checkpoints.proofs.Prelude.{option_copied, numbered}
 use Rattle.checkpoints.proofs.Looked.{Stands}
 use Rattle.checkpoints.proofs.placing.lowest_misplaced.Given as goal
 

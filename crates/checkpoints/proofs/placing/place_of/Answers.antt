@@ -1,5 +1,4 @@
-use Rattle.std.proofs.Common.{map, arith, Vec, Global, List, ℕ}
-use Rattle.path_text.specs.declared.paths.Path.{Path}
+use Rattle.checkpoints.proofs.Prelude.{map, arith, Vec, Global, List, ℕ, Path}
 use Rattle.checkpoints.proofs.Numbers.{at_map, place_found, number_more}
 use Rattle.checkpoints.proofs.placing.place_of.Goals as goal
 

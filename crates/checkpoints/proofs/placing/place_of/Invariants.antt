@@ -1,5 +1,4 @@
-use Rattle.std.proofs.Common.{◌≡◌, ◌+◌, map, take, length}
-use Rattle.std.specs.List.{flat_map}
+use Rattle.checkpoints.proofs.Prelude.{◌≡◌, ◌+◌, map, take, length, flat_map}
 use Rattle.checkpoints.proofs.placing.place_of.Given as goal
 
 abbrev pub invariant-loop-rank : goal.invariant-loop-rank

@@ -1,8 +1,5 @@
-use Rattle.std.proofs.Common.{◌≡◌, ◌+◌, ◌++◌, ◌∷◌, [], ◌∙◌, ap, sym, List, ℕ, take, length, arith}
-use Rattle.std.specs.List.{enumerate_from}
-use Rattle.std.proofs.lemmas.List.{length-map, map-append}
-use Rattle.checkpoints.specs.declared.placing.Left.{Left}
-use Rattle.checkpoints.specs.Lefts.{numbered}
+use Rattle.checkpoints.proofs.Prelude.{◌≡◌, ◌+◌, ◌++◌, ◌∷◌, [], ◌∙◌, ap, sym, List, ℕ, take, length, arith, enumerate_from, length-map, map-append, Left}
+use Rattle.checkpoints.proofs.Prelude.{numbered}
 use Rattle.checkpoints.proofs.Paired.{pair}
 use Rattle.checkpoints.proofs.Numbers.{IsAt, one_more}
 use Rattle.checkpoints.proofs.placing.put_all.Goals as goal

@@ -1,6 +1,4 @@
-use Rattle.std.proofs.Common.{◌≡◌, ◌++◌, length, take}
-use Rattle.std.specs.List.{enumerate_from}
-use Rattle.checkpoints.specs.Lefts.{numbered}
+use Rattle.checkpoints.proofs.Prelude.{◌≡◌, ◌++◌, length, take, enumerate_from, numbered}
 use Rattle.checkpoints.proofs.placing.put_all.Given as goal
 
 abbrev pub invariant-loop-path : goal.invariant-loop-path

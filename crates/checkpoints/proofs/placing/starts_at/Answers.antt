@@ -1,7 +1,4 @@
-use Rattle.std.proofs.Common.{◌∙◌, ap, sym, eqb}
-use Rattle.std.specs.Cmp.Lexicographic.{pointwise}
-use Rattle.checkpoints.specs.declared.placing.Left.{Left}
-use Rattle.checkpoints.specs.Lefts.{numbered}
+use Rattle.checkpoints.proofs.Prelude.{◌∙◌, ap, sym, eqb, pointwise, Left, numbered}
 use Rattle.checkpoints.proofs.Paired.{pair}
 use Rattle.checkpoints.proofs.Numbers.{at_map, starts_here}
 use Rattle.checkpoints.proofs.placing.starts_at.Goals as goal

@@ -1,8 +1,5 @@
-use Rattle.std.proofs.Common.{◌≡◌, ◌<◌, ◌∙◌, ap, sym, subst, get_or, map, length, [], Vec, Global, arith}
-use Rattle.std.specs.Prelude.{IfSome}
-use Rattle.std.proofs.lemmas.List.{get_or-map, length-map}
-use Rattle.path_text.specs.declared.paths.Path.{Path}
-use Rattle.checkpoints.specs.Placing.{IsFirstMisplaced}
+use Rattle.checkpoints.proofs.Prelude.{◌≡◌, ◌<◌, ◌∙◌, ap, sym, subst, get_or, map, length, [], Vec, Global, arith, IfSome, get_or-map, length-map, Path}
+use Rattle.checkpoints.proofs.Prelude.{IsFirstMisplaced}
 use Rattle.checkpoints.proofs.Read.{inside, inside_ranks}
 use Rattle.checkpoints.proofs.reading.look_placed.Goals as goal
 

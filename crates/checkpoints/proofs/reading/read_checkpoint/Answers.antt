@@ -1,14 +1,5 @@
-use Rattle.std.proofs.Common.{inl, inr, sym, subst, map, Vec, Global}
-use Rattle.std.specs.Prelude.{IfSome}
-use Rattle.std.specs.List.{flat_map}
-use Rattle.std.proofs.lemmas.List.{length-map}
-use Rattle.path_text.specs.declared.paths.Path.{Path}
-use Rattle.circle_lists.specs.Spelling.{IsRank}
-use Rattle.circle_lists.specs.Checkpoint.{HoldLists}
-use Rattle.run_report.specs.Sides.{side_of}
-use Rattle.run_entries.specs.Entries.{IsRead}
-use Rattle.checkpoints.specs.Placing.{ArePlaced}
-use Rattle.checkpoints.specs.Stopping.{HasNoRanks}
+use Rattle.checkpoints.proofs.Prelude.{inl, inr, sym, subst, map, Vec, Global, IfSome, flat_map, length-map, Path, IsRank, HoldLists, side_of, IsRead}
+use Rattle.checkpoints.proofs.Prelude.{ArePlaced, HasNoRanks}
 use Rattle.checkpoints.proofs.Read.{no_ranks}
 use Rattle.checkpoints.proofs.Written.{named_at}
 use Rattle.checkpoints.proofs.reading.read_checkpoint.Goals as goal

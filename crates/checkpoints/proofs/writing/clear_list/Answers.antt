@@ -1,12 +1,6 @@
-use Rattle.std.proofs.Common.{◌≡◌, ◌⊎◌, ◌∙◌, ap, subst}
-use Rattle.std.specs.Prelude.{IfErr, IfSome, OnErr}
-use Rattle.std.proofs.lemmas.Result.{on_ok_weaker}
-use Rattle.outside.specs.Count.{RoseBy}
-use Rattle.outside.specs.Tree.{is_root}
-use Rattle.outside.specs.Writes.{SameBut}
+use Rattle.checkpoints.proofs.Prelude.{◌≡◌, ◌⊎◌, ◌∙◌, ap, subst, IfErr, IfSome, OnErr, on_ok_weaker, RoseBy, is_root, SameBut, side_of}
 use Rattle.run_report.specs.declared.stops.Trouble.TheVariants as trouble
 use Rattle.run_report.specs.declared.stops.Stop.TheVariants as stop
-use Rattle.run_report.specs.Sides.{side_of}
 use Rattle.checkpoints.proofs.Paths.{list_below}
 use Rattle.checkpoints.proofs.Written.{cleared_by}
 use Rattle.checkpoints.proofs.writing.clear_list.Goals as goal

@@ -1,4 +1,5 @@
-use Rattle.std.proofs.Common.{ap, Err}
+use Rattle.checkpoints.proofs.Prelude.{ap}
+use Rattle.std.proofs.Common.{Err}
 use Rattle.checkpoints.proofs.Removed.{refused_gone, refused_same, removed_gone}
 use Rattle.checkpoints.proofs.Stopped.{meant_stops}
 use Rattle.checkpoints.proofs.writing.remove_old.Goals as goal

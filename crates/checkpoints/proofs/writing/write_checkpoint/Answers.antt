@@ -1,13 +1,7 @@
-use Rattle.std.proofs.Common.{rules, ℕ, List, ◌<◌, ◌≤◌, ◌∙◌, inl, inr, ap, subst, map, length, Vec, Global, arith}
-use Rattle.std.specs.Prelude.{IfNone}
-use Rattle.std.proofs.lemmas.List.{length-map}
-use Rattle.std.proofs.lemmas.Result.{on_ok_weaker}
-use Rattle.path_text.specs.declared.paths.Path.{Path}
+use Rattle.checkpoints.proofs.Prelude.{rules, ℕ, List, ◌<◌, ◌≤◌, ◌∙◌, inl, inr, ap, subst, map, length, Vec, Global, arith, IfNone, length-map, on_ok_weaker}
+use Rattle.checkpoints.proofs.Prelude.{Path, side_of, list_path, StopsWriting}
 use Rattle.run_report.specs.declared.stops.Trouble.TheVariants as trouble
 use Rattle.run_report.specs.declared.stops.Stop.TheVariants as stop
-use Rattle.run_report.specs.Sides.{side_of}
-use Rattle.checkpoints.specs.Kept.{list_path}
-use Rattle.checkpoints.specs.Stopping.{StopsWriting}
 use Rattle.checkpoints.proofs.Removed.{on_err}
 use Rattle.checkpoints.proofs.Stopped.{kept_stops, ranks_stop, list_stop}
 use Rattle.checkpoints.proofs.Written.{all_kept, all_newest, all_rest, cleared_rest, kept_rest, kept_torn, list_torn, named_at, ranks_rest, ranks_torn}

@@ -1,5 +1,4 @@
-use Rattle.std.proofs.Common.{◌≡◌, ◌≤◌, ◌<◌, ℕ}
-use Rattle.circle_lists.specs.Spelling.{head_text}
+use Rattle.circle_lists.proofs.Prelude.{◌≡◌, ◌≤◌, ◌<◌, ℕ, head_text}
 use Rattle.circle_lists.proofs.decoding.any_ranks_in.Given as goal
 
 -- none of the numbers so far is told

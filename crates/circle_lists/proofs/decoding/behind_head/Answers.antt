@@ -1,6 +1,4 @@
-use Rattle.std.proofs.Common.{sym, subst}
-use Rattle.std.specs.Prelude.{IfNone}
-use Rattle.circle_lists.specs.Private.{HeadsNone}
+use Rattle.circle_lists.proofs.Prelude.{sym, subst, IfNone, HeadsNone}
 use Rattle.circle_lists.proofs.Decoded.{head_none, head_other}
 use Rattle.circle_lists.proofs.decoding.behind_head.Goals as goal
 

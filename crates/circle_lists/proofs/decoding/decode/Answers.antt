@@ -1,12 +1,5 @@
-use Rattle.std.proofs.Common.{rules, arith, ◌≡◌, ◌+◌, ◌∷◌, ◌++◌, [], length, length-append, sym, ap, subst, ℕ, List, Option, Some, None, Bor}
-use Rattle.std.specs.Prelude.{IfSome}
-use Rattle.std.specs.Str.{IsUtf8}
-use Rattle.std.proofs.lemmas.Result.{IfOk-weaker, MatchResult-weaker}
-use Rattle.whole_lines.specs.Lines.{lines_of}
-use Rattle.whole_lines.specs.Words.{cut, path_from}
-use Rattle.circle_lists.specs.declared.decoding.RankList.{RankList}
-use Rattle.circle_lists.specs.Spelling.{Spells, IsDamaged}
-use Rattle.circle_lists.specs.Private.{IsHead}
+use Rattle.circle_lists.proofs.Prelude.{rules, arith, ◌≡◌, ◌+◌, ◌∷◌, ◌++◌, [], length, length-append, sym, ap, subst, ℕ, List, Option, Some, None, Bor, IfSome}
+use Rattle.circle_lists.proofs.Prelude.{IsUtf8, IfOk-weaker, MatchResult-weaker, lines_of, cut, path_from, RankList, Spells, IsDamaged, IsHead}
 use Rattle.circle_lists.proofs.Damage.{Reader, Stands}
 use Rattle.circle_lists.proofs.Decoded.{starts, head_room, Reads, goes_on, bad_torn, at_end, ended_badly, cut_shorter}
 use Rattle.circle_lists.proofs.decoding.decode.Goals as goal

@@ -1,5 +1,4 @@
-use Rattle.std.proofs.Common.{◌+◌, ◌<◌, ◌≤◌, ◌^◌, length}
-use Rattle.whole_lines.specs.Lines.{lines_of}
+use Rattle.circle_lists.proofs.Prelude.{◌+◌, ◌<◌, ◌≤◌, ◌^◌, length, lines_of}
 use Rattle.circle_lists.proofs.Damage.{Stands}
 use Rattle.circle_lists.proofs.decoding.decode.Given as goal
 

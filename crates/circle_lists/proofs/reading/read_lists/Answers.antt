@@ -1,10 +1,6 @@
-use Rattle.std.proofs.Common.{rules, arith, ℕ, ◌≡◌, ◌<◌, ◌∙◌, sym, subst, map, length, Some, Vec, Global}
-use Rattle.std.specs.Prelude.{IfSome}
-use Rattle.std.proofs.lemmas.List.{length-map}
-use Rattle.path_text.specs.declared.paths.Path.{Path}
-use Rattle.circle_lists.specs.declared.errors.ListsError.{ListsError}
+use Rattle.circle_lists.proofs.Prelude.{rules, arith, ℕ, ◌≡◌, ◌<◌, ◌∙◌, sym, subst, map, length, Some, Vec, Global, IfSome, length-map, Path, ListsError, Fits}
+use Rattle.circle_lists.proofs.Prelude.{HoldsList, StopsReadingAt, StopsReading}
 use Rattle.circle_lists.specs.declared.errors.ListsError.TheVariants as error
-use Rattle.circle_lists.specs.Checkpoint.{Fits, HoldsList, StopsReadingAt, StopsReading}
 use Rattle.circle_lists.proofs.Told.{Told, told_more, reached, stops_later, map_more}
 use Rattle.circle_lists.proofs.reading.read_lists.Given as given
 use Rattle.circle_lists.proofs.reading.read_lists.Goals as goal

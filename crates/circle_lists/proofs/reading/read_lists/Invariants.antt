@@ -1,6 +1,4 @@
-use Rattle.std.proofs.Common.{◌≡◌, ◌≤◌, length, map}
-use Rattle.outside.specs.Count.{RoseBy}
-use Rattle.circle_lists.specs.Spelling.{IsRank}
+use Rattle.circle_lists.proofs.Prelude.{◌≡◌, ◌≤◌, length, map, RoseBy, IsRank}
 use Rattle.circle_lists.proofs.Told.{Told}
 use Rattle.circle_lists.proofs.reading.read_lists.Given as goal
 

@@ -1,7 +1,4 @@
-use Rattle.std.proofs.Common.{◌≡◌, sym, subst}
-use Rattle.std.specs.Prelude.{IfSome}
-use Rattle.circle_lists.specs.Spelling.{Spells}
-use Rattle.circle_lists.specs.Checkpoint.{file_path, Fits}
+use Rattle.circle_lists.proofs.Prelude.{◌≡◌, sym, subst, IfSome, Spells, file_path, Fits}
 use Rattle.circle_lists.proofs.Saved.{saved_holds, saved_rest}
 use Rattle.circle_lists.proofs.writing.write_list.Given as given
 use Rattle.circle_lists.proofs.writing.write_list.Goals as goal

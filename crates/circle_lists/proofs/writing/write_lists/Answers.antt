@@ -1,8 +1,5 @@
-use Rattle.std.proofs.Common.{rules, arith, ◌≡◌, ◌<◌, ◌∙◌, ap, sym, subst, get_or, map, length, [], Vec, Global}
-use Rattle.std.specs.Prelude.{IfSome}
-use Rattle.std.proofs.lemmas.List.{get_or-map}
-use Rattle.path_text.specs.declared.paths.Path.{Path}
-use Rattle.circle_lists.specs.Checkpoint.{HoldsList, StopsWriting}
+use Rattle.circle_lists.proofs.Prelude.{rules, arith, ◌≡◌, ◌<◌, ◌∙◌, ap, sym, subst, get_or, map, length, [], Vec, Global, IfSome, get_or-map, Path, HoldsList}
+use Rattle.circle_lists.proofs.Prelude.{StopsWriting}
 use Rattle.circle_lists.proofs.Saved.{WroteOne, wrote_more, place_before, places_more, stops_before}
 use Rattle.circle_lists.proofs.writing.write_lists.Goals as goal
 

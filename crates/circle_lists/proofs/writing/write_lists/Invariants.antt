@@ -1,7 +1,4 @@
-use Rattle.std.proofs.Common.{◌≡◌, ◌<◌, ℕ, length, map}
-use Rattle.outside.specs.Count.{RoseBy}
-use Rattle.outside.specs.Writes.{nothing_lent}
-use Rattle.circle_lists.specs.Checkpoint.{HasPlace}
+use Rattle.circle_lists.proofs.Prelude.{◌≡◌, ◌<◌, ℕ, length, map, RoseBy, nothing_lent, HasPlace}
 use Rattle.circle_lists.proofs.Saved.{Wrote}
 use Rattle.circle_lists.proofs.writing.write_lists.Given as goal
 

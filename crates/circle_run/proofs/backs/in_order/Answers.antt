@@ -1,6 +1,4 @@
-use Rattle.std.proofs.Common.{rules, arith, ◌==◌}
-use Rattle.std.proofs.lemmas.List.Sorted.{IsNonDecreasingBy-from_sort_by_key, sum_by-IsPermutation}
-use Rattle.circle_run.specs.Private.Away.{one_if}
+use Rattle.circle_run.proofs.Prelude.{rules, arith, ◌==◌, IsNonDecreasingBy-from_sort_by_key, sum_by-IsPermutation, one_if}
 use Rattle.circle_run.proofs.Places.{ascends}
 use Rattle.circle_run.proofs.backs.in_order.Goals as goal
 

@@ -1,6 +1,4 @@
-use Rattle.std.proofs.Common.{sym, subst}
-use Rattle.circle_run.specs.Hosts.{IsAscending, AllReady}
-use Rattle.circle_run.specs.Private.Away.{HostRan}
+use Rattle.circle_run.proofs.Prelude.{sym, subst, IsAscending, AllReady, HostRan}
 use Rattle.circle_run.proofs.backs.run_host.Goals as goal
 
 pub run-requires-clause-order : goal.run-requires-clause-order

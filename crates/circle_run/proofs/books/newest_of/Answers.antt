@@ -1,4 +1,4 @@
-use Rattle.std.proofs.Common.{arith}
+use Rattle.circle_run.proofs.Prelude.{arith}
 use Rattle.circle_run.proofs.Numbers.{newest_at}
 use Rattle.circle_run.proofs.books.newest_of.Goals as goal
 

@@ -1,5 +1,4 @@
-use Rattle.std.proofs.Common.{false, sym, ◌∙◌, arith}
-use Rattle.std.proofs.lemmas.List.{get_or-take, length-take-le}
+use Rattle.circle_run.proofs.Prelude.{false, sym, ◌∙◌, arith, get_or-take, length-take-le}
 use Rattle.circle_run.proofs.hosts.all_set.Goals as goal
 
 pub slice_bounds-are_set-end : goal.slice_bounds-are_set-end

@@ -1,7 +1,4 @@
-use Rattle.std.proofs.Common.{arith, sym, ap, ◌∙◌, get_or}
-use mathlib.Core.Logic.{dite}
-use native.Mathlib.Decide.{ℕ_discrete}
-use Rattle.std.proofs.lemmas.List.{get_or_read}
+use Rattle.circle_run.proofs.Prelude.{arith, sym, ap, ◌∙◌, get_or, dite, ℕ_discrete, get_or_read}
 use Rattle.circle_run.specs.declared.ranks.RankState.{RankState}
 use Rattle.circle_run.proofs.many_hosts.any_lost.Goals as goal
 

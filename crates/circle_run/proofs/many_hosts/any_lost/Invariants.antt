@@ -1,4 +1,4 @@
-use Rattle.std.proofs.Common.{◌≡◌, ℕ, ◌<◌, false, get_or}
+use Rattle.circle_run.proofs.Prelude.{◌≡◌, ℕ, ◌<◌, false, get_or}
 use Rattle.circle_run.specs.declared.ranks.RankState.{RankState}
 use Rattle.circle_run.proofs.many_hosts.any_lost.Given as goal
 

@@ -1,6 +1,4 @@
-use Rattle.std.proofs.Common.{length, sym, ap, ◌∙◌}
-use Rattle.std.proofs.lemmas.List.FromFn.{length-map-range_with_len}
-use Rattle.circle_run.specs.Stages.{dealt_to}
+use Rattle.circle_run.proofs.Prelude.{length, sym, ap, ◌∙◌, length-map-range_with_len, dealt_to}
 use Rattle.post_board.specs.BoardSeats.{IsSeat as IsBoardSeat, shown_by as board_shown}
 use Rattle.sum_tree.specs.TreeSeats.{IsSeat as IsSumSeat, shown_by as sum_shown}
 use Rattle.circle_run.proofs.Whole.{starting}

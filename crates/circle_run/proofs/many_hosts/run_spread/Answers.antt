@@ -1,10 +1,6 @@
-use Rattle.std.proofs.Common.{rules, ◌≡◌, ◌==◌, map, length, refl, sym, subst, ap, ◌∙◌, arith}
-use Rattle.std.specs.List.{sum_by}
+use Rattle.circle_run.proofs.Prelude.{rules, ◌≡◌, ◌==◌, map, length, refl, sym, subst, ap, ◌∙◌, arith, sum_by, NoneLost, IsHost, one_if, Starting}
 use Rattle.post_board.specs.BoardSeats.{IsSeat as IsBoardSeat, shown_by as board_shown}
 use Rattle.sum_tree.specs.TreeSeats.{IsSeat as IsSumSeat, shown_by as sum_shown}
-use Rattle.circle_run.specs.Hosts.{NoneLost}
-use Rattle.circle_run.specs.Private.Away.{IsHost, one_if}
-use Rattle.circle_run.specs.Private.Parting.{Starting}
 use Rattle.circle_run.proofs.Maps.{sum_by-map}
 use Rattle.circle_run.proofs.Places.{once_whole}
 use Rattle.circle_run.proofs.Final.{ending}

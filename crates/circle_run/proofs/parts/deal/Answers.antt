@@ -1,8 +1,4 @@
-use Rattle.std.proofs.Common.{ℕ, ◌+◌, ◌%◌, length, sym, ap, ◌∙◌, arith}
-use Rattle.std.proofs.Math.Nat.{mod-lt, mod-eq_of_lt}
-use Rattle.std.proofs.lemmas.List.{length_push}
-use Rattle.std.proofs.lemmas.List.FromFn.{length-map-range_with_len}
-use Rattle.circle_run.specs.Stages.{dealt_to}
+use Rattle.circle_run.proofs.Prelude.{ℕ, ◌+◌, ◌%◌, length, sym, ap, ◌∙◌, arith, mod-lt, mod-eq_of_lt, length_push, length-map-range_with_len, dealt_to}
 use Rattle.circle_run.proofs.Dealt.{turn_more, none_dealt, dealt_more}
 use Rattle.circle_run.proofs.parts.deal.Goals as goal
 

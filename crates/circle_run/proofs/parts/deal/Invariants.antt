@@ -1,6 +1,4 @@
-use Rattle.std.proofs.Common.{◌≡◌, ◌%◌, map, length}
-use Rattle.std.specs.List.{range_with_len}
-use Rattle.circle_run.specs.Stages.{dealt_to}
+use Rattle.circle_run.proofs.Prelude.{◌≡◌, ◌%◌, map, length, range_with_len, dealt_to}
 use Rattle.circle_run.proofs.parts.deal.Given as goal
 
 abbrev pub invariant-loop-path : goal.invariant-loop-path

@@ -1,4 +1,4 @@
-use Rattle.std.proofs.Common.{◌≡◌, ◌-◌, ◌≤◌, [], length, replicate}
+use Rattle.circle_run.proofs.Prelude.{◌≡◌, ◌-◌, ◌≤◌, [], length, replicate}
 use Rattle.circle_run.proofs.parts.empty_batches.Given as goal
 
 abbrev pub invariant-loop-alloc : goal.invariant-loop-alloc

@@ -1,7 +1,5 @@
-use Rattle.std.proofs.Common.{◌≡◌, ℕ, suc, ◌∷◌, ◌++◌, [], map, length, length-append, append-nil, sym, subst, ap, ◌∙◌, arith, All}
-use Rattle.std.proofs.lemmas.List.{length-map, length_push, nil_from_length}
-use Rattle.std.specs.Vec.Iter.{into_iter_items}
-use Rattle.circle_run.specs.Ready.{IsNew}
+use Rattle.circle_run.proofs.Prelude.{◌≡◌, ℕ, suc, ◌∷◌, ◌++◌, [], map, length, length-append, append-nil, sym, subst, ap, ◌∙◌, arith, All, length-map}
+use Rattle.circle_run.proofs.Prelude.{length_push, nil_from_length, into_iter_items, IsNew}
 use Rattle.circle_run.proofs.Maps.{push_each, rest_more}
 use Rattle.circle_run.proofs.New.{new_own}
 use Rattle.circle_run.proofs.parts.new_ranks.Goals as goal

@@ -1,6 +1,4 @@
-use Rattle.std.proofs.Common.{◌≡◌, ℕ, ◌<◌, ◌++◌, [], map, length, get_or, All}
-use Rattle.std.specs.Vec.Iter.{into_iter_items, into_iter_len}
-use Rattle.circle_run.specs.Ready.{IsNew}
+use Rattle.circle_run.proofs.Prelude.{◌≡◌, ℕ, ◌<◌, ◌++◌, [], map, length, get_or, All, into_iter_items, into_iter_len, IsNew}
 use Rattle.circle_run.proofs.parts.new_ranks.Given as goal
 
 abbrev pub invariant-loop-job : goal.invariant-loop-job

@@ -1,5 +1,4 @@
-use Rattle.std.proofs.Common.{rules, ◌≡◌, ◌∷◌, length, length-append, ap, arith}
-use Rattle.std.specs.Vec.Iter.{into_iter_items}
+use Rattle.circle_run.proofs.Prelude.{rules, ◌≡◌, ◌∷◌, length, length-append, ap, arith, into_iter_items}
 use Rattle.circle_run.proofs.pools.add_all.Goals as goal
 
 pub add_one-requires : goal.add_one-requires

@@ -1,5 +1,4 @@
-use Rattle.std.proofs.Common.{◌≡◌, ◌≤◌, ◌++◌, length, vec_capacity}
-use Rattle.std.specs.Vec.Iter.{into_iter_items, into_iter_len}
+use Rattle.circle_run.proofs.Prelude.{◌≡◌, ◌≤◌, ◌++◌, length, vec_capacity, into_iter_items, into_iter_len}
 use Rattle.circle_run.proofs.pools.add_all.Given as goal
 
 abbrev pub invariant-loop-x : goal.invariant-loop-x

@@ -1,13 +1,6 @@
-use Rattle.std.proofs.Common.{List, length, Option, refl, sym, subst, ap, ◌∙◌, arith}
-use Rattle.std.proofs.lemmas.List.{length-map}
-use Rattle.std.proofs.lemmas.List.FromFn.{length-map-range_with_len}
-use Rattle.std.specs.List.{sum_by}
-use Rattle.post_board.specs.Told.{Told}
-use Rattle.post_board.specs.Deeds.{Stays}
-use Rattle.post_board.specs.Calls.{NoneOnTheWay}
+use Rattle.circle_run.proofs.Prelude.{List, length, Option, refl, sym, subst, ap, ◌∙◌, arith, length-map, length-map-range_with_len, sum_by, Told, Stays}
+use Rattle.circle_run.proofs.Prelude.{NoneOnTheWay, dealt_to, AreNew}
 use Rattle.sum_tree.specs.Plain.{fresh as fresh_sums}
-use Rattle.circle_run.specs.Stages.{dealt_to}
-use Rattle.circle_run.specs.Private.Outcomes.{AreNew}
 use Rattle.circle_run.proofs.Maps.{sum_by-map}
 use Rattle.circle_run.proofs.Beginning.{begins}
 use Rattle.circle_run.proofs.Rounds.{same_all}

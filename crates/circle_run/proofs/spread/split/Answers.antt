@@ -1,11 +1,5 @@
-use Rattle.std.proofs.Common.{rules, arith, ◌≡◌, ◌==◌, ℕ, false, length, [], ◌∷◌, ◌%◌, All, subst, ap, sym, ◌∙◌}
-use Rattle.std.proofs.lemmas.List.Elements.{All-nil, All-cons, All-append}
-use Rattle.circle_run.specs.declared.ranks.Rank.{Rank}
-use Rattle.std.specs.List.{sum_by}
-use Rattle.std.specs.Vec.Iter.{into_iter_items}
-use Rattle.std.proofs.lemmas.List.{nil_from_length}
-use Rattle.std.proofs.lemmas.List.Sums.{sum_by-cons, sum_by-append}
-use Rattle.circle_run.specs.Private.Away.{one_if}
+use Rattle.circle_run.proofs.Prelude.{rules, arith, ◌≡◌, ◌==◌, ℕ, false, length, [], ◌∷◌, ◌%◌, All, subst, ap, sym, ◌∙◌, All-nil, All-cons, All-append, Rank}
+use Rattle.circle_run.proofs.Prelude.{sum_by, into_iter_items, nil_from_length, sum_by-cons, sum_by-append, one_if}
 use Rattle.circle_run.proofs.Parted.{parted_first, parted_chosen, parted_rest}
 use Rattle.circle_run.proofs.spread.split.Goals as goal
 

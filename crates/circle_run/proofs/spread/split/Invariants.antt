@@ -1,7 +1,4 @@
-use Rattle.std.proofs.Common.{◌≡◌, ◌%◌, ◌==◌, All, length}
-use Rattle.std.specs.List.{sum_by}
-use Rattle.circle_run.specs.Private.Away.{one_if}
-use Rattle.std.specs.Vec.Iter.{into_iter_items, into_iter_len}
+use Rattle.circle_run.proofs.Prelude.{◌≡◌, ◌%◌, ◌==◌, All, length, sum_by, one_if, into_iter_items, into_iter_len}
 use Rattle.circle_run.proofs.Parted.{Parting}
 use Rattle.circle_run.proofs.spread.split.Given as goal
 

@@ -1,12 +1,5 @@
-use Rattle.std.proofs.Common.{arith, ◌≡◌, ℕ, ◌%◌, ◌==◌, All, [], ◌∷◌, ap, sym, subst, Vec}
-use mathlib.Core.Logic.{dite}
-use native.Mathlib.Decide.{ℕ_discrete}
-use Rattle.std.specs.List.{sum_by}
-use Rattle.std.proofs.lemmas.List.Sums.{sum_by-cons, sum_by-append}
-use Rattle.std.proofs.lemmas.List.Elements.{All-nil, All-cons, All-append}
-use Rattle.std.specs.declared.alloc.Global.{Global}
-use Rattle.circle_run.specs.declared.ranks.Rank.{Rank}
-use Rattle.circle_run.specs.Private.Away.{IsHost, one_if}
+use Rattle.circle_run.proofs.Prelude.{arith, ◌≡◌, ℕ, ◌%◌, ◌==◌, All, [], ◌∷◌, ap, sym, subst, Vec, dite, ℕ_discrete, sum_by, sum_by-cons, sum_by-append}
+use Rattle.circle_run.proofs.Prelude.{All-nil, All-cons, All-append, Global, Rank, IsHost, one_if}
 use Rattle.circle_run.proofs.spread.spread.Goals as goal
 
 pub loop-host-init : goal.loop-host-init

@@ -1,6 +1,4 @@
-use Rattle.std.proofs.Common.{◌≡◌, ℕ, ◌+◌, ◌%◌, ◌<◌, ◌≤◌, ◌==◌, All}
-use Rattle.std.specs.List.{sum_by}
-use Rattle.circle_run.specs.Private.Away.{IsHost, one_if}
+use Rattle.circle_run.proofs.Prelude.{◌≡◌, ℕ, ◌+◌, ◌%◌, ◌<◌, ◌≤◌, ◌==◌, All, sum_by, IsHost, one_if}
 use Rattle.circle_run.proofs.spread.spread.Given as goal
 
 abbrev pub invariant-loop-host : goal.invariant-loop-host

@@ -1,4 +1,4 @@
-use Rattle.std.proofs.Common.{◌≡◌, length}
+use Rattle.circle_run.proofs.Prelude.{◌≡◌, length}
 use Rattle.circle_run.proofs.spread.unset.Given as goal
 
 abbrev pub invariant-loop-number : goal.invariant-loop-number

@@ -1,7 +1,4 @@
-use Rattle.std.proofs.Common.{rules, arith, ◌≡◌, ap}
-use Rattle.std.specs.List.{sum_by}
-use Rattle.std.proofs.lemmas.List.Sums.{sum_by-append}
-use Rattle.circle_run.specs.Private.Away.{HostRan}
+use Rattle.circle_run.proofs.Prelude.{rules, arith, ◌≡◌, ap, sum_by, sum_by-append, HostRan}
 use Rattle.circle_run.proofs.Joined.{ready_of, done_numbers}
 use Rattle.circle_run.proofs.Pooling.{pooled_start, pooled_mine, pooled_done}
 use Rattle.circle_run.proofs.threads.add_host.Goals as goal

@@ -1,5 +1,4 @@
-use Rattle.std.proofs.Common.{rules, ◌≡◌, sym, subst}
-use Rattle.circle_run.specs.Private.Away.{MayRun}
+use Rattle.circle_run.proofs.Prelude.{rules, ◌≡◌, sym, subst, MayRun}
 use Rattle.circle_run.proofs.threads.finish.Goals as goal
 
 pub run_host-requires : goal.run_host-requires

@@ -1,7 +1,4 @@
-use Rattle.std.proofs.Common.{arith, length, All, ap, sym, subst, ◌∙◌}
-use Rattle.std.specs.List.{sum_by}
-use Rattle.circle_run.specs.Private.Away.{IsOne}
-use Rattle.circle_run.specs.Private.Pooled.{HasRoom}
+use Rattle.circle_run.proofs.Prelude.{arith, length, All, ap, sym, subst, ◌∙◌, sum_by, IsOne, HasRoom}
 use Rattle.circle_run.proofs.Places.{ones}
 use Rattle.circle_run.proofs.threads.run_all.Goals as goal
 

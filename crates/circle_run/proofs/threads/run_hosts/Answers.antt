@@ -1,14 +1,6 @@
-use Rattle.std.proofs.Common.{rules, arith, ◌≡◌, ℕ, suc, ◌+◌, ◌<◌, length, All, List, [], ◌∷◌, ◌++◌, length-append, ap, sym, subst, ◌∙◌, ◌==◌, Vec}
-use Rattle.std.specs.declared.alloc.Global.{Global}
-use Rattle.circle_run.specs.declared.ranks.Rank.{Rank}
-use Rattle.std.specs.List.{sum_by}
-use Rattle.std.specs.Vec.Iter.{into_iter_items}
-use Rattle.std.proofs.lemmas.List.{nil_from_length}
-use Rattle.std.proofs.lemmas.List.Sums.{sum_by-cons, sum_by-append}
-use Rattle.std.proofs.lemmas.List.Elements.{All-nil, All-tail}
-use Rattle.std.proofs.lemmas.List.Sorted.{All-permutation, sum_by-IsPermutation}
-use Rattle.circle_run.specs.Private.Away.{one_if, IsOne, IsHost, AreDone, MayRun}
-use Rattle.circle_run.specs.Private.Pooled.{started_numbers, IsStarted}
+use Rattle.circle_run.proofs.Prelude.{rules, arith, ◌≡◌, ℕ, suc, ◌+◌, ◌<◌, length, All, List, [], ◌∷◌, ◌++◌, length-append, ap, sym, subst, ◌∙◌, ◌==◌, Vec}
+use Rattle.circle_run.proofs.Prelude.{Global, Rank, sum_by, into_iter_items, nil_from_length, sum_by-cons, sum_by-append, All-nil, All-tail, All-permutation}
+use Rattle.circle_run.proofs.Prelude.{sum_by-IsPermutation, one_if, IsOne, IsHost, AreDone, MayRun, started_numbers, IsStarted}
 use Rattle.circle_run.proofs.Joined.{ready_of, done_of, done_append, done_numbers, done_none, done_same}
 use Rattle.circle_run.proofs.Places.{once_whole, ones}
 use Rattle.circle_run.proofs.Pooling.{fits_next}

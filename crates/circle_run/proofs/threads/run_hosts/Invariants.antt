@@ -1,8 +1,5 @@
-use Rattle.std.proofs.Common.{◌≡◌, ℕ, ◌+◌, ◌≤◌, [], length, All, vec_capacity}
-use Rattle.std.specs.List.{sum_by}
-use Rattle.std.specs.Vec.Iter.{into_iter_items, into_iter_len}
-use Rattle.circle_run.specs.Private.Away.{IsHost, AreDone}
-use Rattle.circle_run.specs.Private.Pooled.{pooled_numbers, started_numbers, IsStarted, HasRoom, Pooled}
+use Rattle.circle_run.proofs.Prelude.{◌≡◌, ℕ, ◌+◌, ◌≤◌, [], length, All, vec_capacity, sum_by, into_iter_items, into_iter_len, IsHost, AreDone, pooled_numbers}
+use Rattle.circle_run.proofs.Prelude.{started_numbers, IsStarted, HasRoom, Pooled}
 use Rattle.circle_run.proofs.threads.run_hosts.Given as goal
 
 abbrev pub invariant-loop-ranks : goal.invariant-loop-ranks

@@ -1,6 +1,4 @@
-use Rattle.std.proofs.Common.{rules, inl, inr}
-use Rattle.run_report.specs.Sides.{side_of}
-use Rattle.compare_report.specs.Comparing.{compare_asked, StopsCompare}
+use Rattle.compare_report.proofs.Prelude.{rules, inl, inr, side_of, compare_asked, StopsCompare}
 use Rattle.compare_report.proofs.Steps.{Steps, compares_by, outputs_by}
 use Rattle.compare_report.proofs.comparing.prepare.Goals as goal
 

@@ -1,9 +1,4 @@
-use Rattle.std.proofs.Common.{rules, map, subst}
-use Rattle.tool_words.specs.declared.commands.Want.{Want}
-use Rattle.run_report.specs.Sides.{side_of}
-use Rattle.run_entries.specs.Saving.{Saved}
-use Rattle.run_entries.specs.Stopping.{StopsSaving}
-use Rattle.compare_report.specs.Comparing.{compare_asked, StopsCompare}
+use Rattle.compare_report.proofs.Prelude.{rules, map, subst, Want, side_of, Saved, StopsSaving, compare_asked, StopsCompare}
 use Rattle.compare_report.proofs.Steps.{leaves_saved, same_leaves, stops_saving}
 use Rattle.compare_report.proofs.comparing.report_of_compare.Goals as goal
 

@@ -1,5 +1,4 @@
-use Rattle.std.proofs.Common.{◌≡◌, ◌++◌, take}
-use Rattle.compare_report.specs.Comparing.{missed_notes}
+use Rattle.compare_report.proofs.Prelude.{◌≡◌, ◌++◌, take, missed_notes}
 use Rattle.compare_report.proofs.naming.add_missed.Given as goal
 
 abbrev pub invariant-loop-file : goal.invariant-loop-file

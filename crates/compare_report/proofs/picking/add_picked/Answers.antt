@@ -1,10 +1,5 @@
-use Rattle.std.proofs.Common.{◌≡◌, ℕ, ◌&&◌, not, List, ap, arith, subst, sym, ◌∙◌}
-use Rattle.std.specs.Cmp.Lexicographic.{pointwise}
-use Rattle.std.specs.List.{list_any}
-use Rattle.std.specs.Prelude.{nat_eq}
-use Rattle.path_text.specs.Graft.{below_of}
-use Rattle.entry_pages.specs.declared.entries.Entry.{Entry}
-use Rattle.compare_report.specs.PrivatePicks.{picks_but, IsPassed}
+use Rattle.compare_report.proofs.Prelude.{◌≡◌, ℕ, ◌&&◌, not, List, ap, arith, subst, sym, ◌∙◌, pointwise, list_any, nat_eq, below_of, Entry, picks_but}
+use Rattle.compare_report.proofs.Prelude.{IsPassed}
 use Rattle.compare_report.proofs.Picked.{IsHere, here, next_by_path, next_below, picked_more}
 use Rattle.compare_report.proofs.picking.add_picked.Goals as goal
 

@@ -1,6 +1,4 @@
-use Rattle.std.proofs.Common.{◌≡◌, ◌++◌, ◌-◌, ◌≤◌, length, take, filter}
-use Rattle.path_text.specs.Graft.{below_of}
-use Rattle.compare_report.specs.PrivatePicks.{picks_but, IsNext}
+use Rattle.compare_report.proofs.Prelude.{◌≡◌, ◌++◌, ◌-◌, ◌≤◌, length, take, filter, below_of, picks_but, IsNext}
 use Rattle.compare_report.proofs.picking.add_picked.Given as goal
 
 -- what was picked of the entries that were passed, and that the searches are not past the next one

@@ -1,6 +1,5 @@
-use Rattle.std.proofs.Common.{◌≡◌, ◌++◌, [], filter, ap, ◌∙◌}
+use Rattle.compare_report.proofs.Prelude.{◌≡◌, ◌++◌, [], filter, ap, ◌∙◌, picks_but}
 use Rattle.std.specs.List.Sorted.{IsStrictlySortedBy}
-use Rattle.compare_report.specs.PrivatePicks.{picks_but}
 use Rattle.compare_report.proofs.Both.{given_ascend, by_steps}
 use Rattle.compare_report.proofs.picking.joined.Goals as goal
 

@@ -1,5 +1,4 @@
-use Rattle.std.proofs.Common.{◌≡◌, ◌-◌, ◌≤◌, length, take}
-use Rattle.flat_list.specs.Spelling.{paths}
+use Rattle.compare_report.proofs.Prelude.{◌≡◌, ◌-◌, ◌≤◌, length, take, paths}
 use Rattle.compare_report.proofs.picking.paths_of.Given as goal
 
 -- the paths of the entries that were passed

@@ -1,4 +1,4 @@
-use Rattle.std.proofs.Common.{sym, ◌∙◌}
+use Rattle.compare_report.proofs.Prelude.{sym, ◌∙◌}
 use Rattle.compare_report.proofs.Passed.{at_end, at_same, at_later, one_passed}
 use Rattle.compare_report.proofs.picking.seek.Goals as goal
 

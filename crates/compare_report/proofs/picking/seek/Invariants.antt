@@ -1,4 +1,4 @@
-use Rattle.compare_report.specs.PrivatePicks.{IsPassed}
+use Rattle.compare_report.proofs.Prelude.{IsPassed}
 use Rattle.compare_report.proofs.picking.seek.Given as goal
 
 abbrev pub invariant-loop-at : goal.invariant-loop-at

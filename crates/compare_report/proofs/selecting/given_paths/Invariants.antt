@@ -1,5 +1,4 @@
-use Rattle.std.proofs.Common.{◌≡◌, take}
-use Rattle.compare_report.specs.Outputs.{given_paths}
+use Rattle.compare_report.proofs.Prelude.{◌≡◌, take, given_paths}
 use Rattle.compare_report.proofs.selecting.given_paths.Given as goal
 
 abbrev pub invariant-loop-k : goal.invariant-loop-k

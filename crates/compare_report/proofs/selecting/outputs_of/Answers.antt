@@ -1,13 +1,5 @@
-use Rattle.std.proofs.Common.{◌≡◌, true, ◌++◌, ◌∷◌, [], refl, subst, sym}
-use Rattle.std.specs.List.{All}
-use Rattle.std.specs.List.Sorted.{IsStrictlySortedBy}
-use Rattle.std.proofs.lemmas.List.Elements.{All-push}
-use Rattle.path_text.specs.Order.{path_cmp}
-use Rattle.entry_pages.specs.Entries.{is_shaped}
-use Rattle.flat_list.specs.Spelling.{paths}
-use Rattle.tool_words.specs.declared.commands.Want.{Want}
-use Rattle.run_entries.specs.declared.saving.Output.{Output}
-use Rattle.compare_report.specs.Outputs.{IsSelected, AreOutputs}
+use Rattle.compare_report.proofs.Prelude.{◌≡◌, true, ◌++◌, ◌∷◌, [], refl, subst, sym, All, IsStrictlySortedBy, All-push, path_cmp, is_shaped, paths, Want}
+use Rattle.compare_report.proofs.Prelude.{Output, IsSelected, AreOutputs}
 use Rattle.compare_report.proofs.Chosen.{zip_more}
 use Rattle.compare_report.proofs.selecting.outputs_of.Goals as goal
 

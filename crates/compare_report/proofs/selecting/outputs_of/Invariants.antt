@@ -1,10 +1,4 @@
-use Rattle.std.proofs.Common.{◌≡◌, true}
-use Rattle.std.specs.List.{All}
-use Rattle.std.specs.List.Sorted.{IsStrictlySortedBy}
-use Rattle.path_text.specs.Order.{path_cmp}
-use Rattle.entry_pages.specs.Entries.{is_shaped}
-use Rattle.flat_list.specs.Spelling.{paths}
-use Rattle.compare_report.specs.Outputs.{AreOutputs}
+use Rattle.compare_report.proofs.Prelude.{◌≡◌, true, All, IsStrictlySortedBy, path_cmp, is_shaped, paths, AreOutputs}
 use Rattle.compare_report.proofs.selecting.outputs_of.Given as goal
 
 -- the outputs of what was gone over

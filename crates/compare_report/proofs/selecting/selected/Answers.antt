@@ -1,8 +1,5 @@
-use Rattle.std.proofs.Common.{◌≡◌, true, false, filter, IfOk, subst, sym, ◌∙◌}
-use Rattle.std.specs.List.Sorted.{IsStrictlySortedBy}
-use Rattle.path_text.specs.Order.{path_cmp}
-use Rattle.entry_pages.specs.Entries.{is_shaped}
-use Rattle.compare_report.specs.Outputs.{picks, given_paths, IsJoined}
+use Rattle.compare_report.proofs.Prelude.{◌≡◌, true, false, filter, subst, sym, ◌∙◌, IsStrictlySortedBy, path_cmp, is_shaped, picks, given_paths, IsJoined}
+use Rattle.std.proofs.Common.{IfOk}
 use Rattle.compare_report.proofs.Chosen.{given_ascend, if_joined}
 use Rattle.compare_report.proofs.selecting.selected.Goals as goal
 

@@ -1,8 +1,4 @@
-use Rattle.std.proofs.Common.{◌∙◌, ap, length, subst}
-use Rattle.tool_text.specs.NoteOrder.{AreInOrder}
-use Rattle.tool_text.specs.Notes.{note_lines}
-use Rattle.run_report.specs.Sides.{side_of}
-use Rattle.copy_report.specs.Copying.{copied_line, copy_failures}
+use Rattle.copy_report.proofs.Prelude.{◌∙◌, ap, length, subst, AreInOrder, note_lines, side_of, copied_line, copy_failures}
 use Rattle.copy_report.proofs.Steps.{items_are}
 use Rattle.copy_report.proofs.acting.copy_and_tell.Goals as goal
 

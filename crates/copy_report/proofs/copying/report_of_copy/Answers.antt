@@ -1,9 +1,4 @@
-use Rattle.std.proofs.Common.{◌∙◌, inr, IfSome, subst}
-use Rattle.tree_copy.specs.Copying.{SameButTargets}
-use Rattle.run_report.specs.Sides.{side_of, side_with}
-use Rattle.copy_report.specs.Copying.{copy_asked, LeavesCopy}
-use Rattle.copy_report.specs.Placing.{Surveys}
-use Rattle.copy_report.specs.PrivateSteps.{TellsCopies}
+use Rattle.copy_report.proofs.Prelude.{◌∙◌, inr, IfSome, subst, SameButTargets, side_of, side_with, copy_asked, LeavesCopy, Surveys, TellsCopies}
 use Rattle.copy_report.proofs.Steps.{copies_by, leaves_others, looked_by, surveys_by}
 use Rattle.copy_report.proofs.copying.report_of_copy.Given as given
 use Rattle.copy_report.proofs.copying.report_of_copy.Goals as goal

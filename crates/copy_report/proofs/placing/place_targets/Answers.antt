@@ -1,9 +1,4 @@
-use Rattle.std.proofs.Common.{rules, ◌≡◌, ◌<◌, ◌^◌, Ok, IfSome, subst}
-use Rattle.std.specs.List.{All}
-use Rattle.outside.specs.Count.{capped}
-use Rattle.tree_copy.specs.Placing.{IsPair, IsWhy, placed_over}
-use Rattle.run_report.specs.Sides.{side_of}
-use Rattle.copy_report.specs.Placing.{Places}
+use Rattle.copy_report.proofs.Prelude.{rules, ◌≡◌, ◌<◌, ◌^◌, Ok, IfSome, subst, All, capped, IsPair, IsWhy, placed_over, side_of, Places}
 use Rattle.copy_report.proofs.Placed.{places, are_placed, stops_placing, taken_back}
 use Rattle.copy_report.proofs.placing.place_targets.Given as given
 use Rattle.copy_report.proofs.placing.place_targets.Goals as goal

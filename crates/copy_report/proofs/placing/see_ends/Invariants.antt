@@ -1,6 +1,4 @@
-use Rattle.std.proofs.Common.{take}
-use Rattle.std.specs.List.{All}
-use Rattle.tree_copy.specs.Placing.{IsPair}
+use Rattle.copy_report.proofs.Prelude.{take, All, IsPair}
 use Rattle.copy_report.proofs.placing.see_ends.Given as goal
 
 -- the pairs that were seen

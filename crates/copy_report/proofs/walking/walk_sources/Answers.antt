@@ -1,4 +1,4 @@
-use Rattle.run_report.specs.Sides.{side_of}
+use Rattle.copy_report.proofs.Prelude.{side_of}
 use Rattle.copy_report.proofs.Ready.{walk_can, walk_fits}
 use Rattle.copy_report.proofs.walking.walk_sources.Goals as goal
 

@@ -1,5 +1,4 @@
-use Rattle.run_report.specs.Sides.{side_of}
-use Rattle.run_entries.proofs.Sided.{stats_told}
+use Rattle.dup_report.proofs.Prelude.{side_of, stats_told}
 use Rattle.dup_report.proofs.finding.walk_listed.Goals as goal
 
 pub returns-clause-told : goal.returns-clause-told

@@ -1,7 +1,4 @@
-use Rattle.std.proofs.Common.{arith, inr, rules}
-use Rattle.tree_dup.proofs.Few.{grouping_is_few}
-use Rattle.run_report.specs.Sides.{side_of}
-use Rattle.dup_report.specs.Grouping.{dup_asked, StopsDup}
+use Rattle.dup_report.proofs.Prelude.{arith, inr, rules, grouping_is_few, side_of, dup_asked, StopsDup}
 use Rattle.dup_report.proofs.Steps.{finds_by}
 use Rattle.dup_report.proofs.grouping.report_of_dup.Goals as goal
 

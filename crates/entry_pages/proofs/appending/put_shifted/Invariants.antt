@@ -1,5 +1,4 @@
-use Rattle.std.proofs.Common.{◌≡◌, ◌+◌, ◌-◌, ◌≤◌, ◌++◌, map, take, length}
-use Rattle.std.specs.Vec.{vec_len, vec_capacity}
+use Rattle.entry_pages.proofs.Prelude.{◌≡◌, ◌+◌, ◌-◌, ◌≤◌, ◌++◌, map, take, length, vec_len, vec_capacity}
 use Rattle.entry_pages.proofs.appending.put_shifted.Given as goal
 
 -- what was passed was put, and there is room for the others

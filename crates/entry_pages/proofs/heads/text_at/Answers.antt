@@ -1,7 +1,5 @@
-use Rattle.std.proofs.Common.{rules, arith, ◌≡◌, ◌∙◌, ◌+◌, ◌-◌, ℕ, false, true, cond, Some, None, sym, ap, subst, take, drop}
-use Rattle.std.specs.Prelude.{◌==◌}
-use Rattle.std.specs.Str.{IsUtf8}
-use Rattle.entry_pages.specs.Private.Slim.{is_text}
+use Rattle.entry_pages.proofs.Prelude.{rules, arith, ◌≡◌, ◌∙◌, ◌+◌, ◌-◌, ℕ, false, true, cond, sym, ap, subst, take, drop, ◌==◌, IsUtf8, is_text}
+use Rattle.std.proofs.Common.{Some, None}
 use Rattle.entry_pages.proofs.Slimmed.{text_utf8}
 use Rattle.entry_pages.proofs.heads.text_at.Goals as goal
 

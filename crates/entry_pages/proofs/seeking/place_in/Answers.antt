@@ -1,8 +1,4 @@
-use Rattle.std.proofs.Common.{◌≡◌, ◌+◌, ℕ, arith, List, sym, ap, subst, ◌∙◌}
-use Rattle.std.specs.Prelude.{Some, slice_get}
-use Rattle.std.specs.Option.{option_map}
-use Rattle.entry_pages.specs.Private.Slim.{with_text}
-use Rattle.entry_pages.specs.Pack.{Head}
+use Rattle.entry_pages.proofs.Prelude.{◌≡◌, ◌+◌, ℕ, arith, List, sym, ap, subst, ◌∙◌, Some, slice_get, option_map, with_text, Head}
 use Rattle.entry_pages.proofs.Sought.{seek_step, seek_room, seek_short}
 use Rattle.entry_pages.proofs.seeking.place_in.Goals as goal
 

@@ -1,6 +1,4 @@
-use Rattle.std.proofs.Common.{◌≡◌, []}
-use Rattle.entry_pages.specs.Pack.{unpacked}
-use Rattle.entry_pages.specs.Private.Kept.{IsSeek}
+use Rattle.entry_pages.proofs.Prelude.{◌≡◌, [], unpacked, IsSeek}
 use Rattle.entry_pages.proofs.seeking.place_in.Given as goal
 
 abbrev pub invariant-loop-k : goal.invariant-loop-k

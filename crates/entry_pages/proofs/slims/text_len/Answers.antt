@@ -1,6 +1,4 @@
-use Rattle.std.proofs.Common.{ap, ◌∙◌, subst}
-use Rattle.std.specs.Str.{IsUtf8}
-use Rattle.entry_pages.specs.Private.Slim.{is_text}
+use Rattle.entry_pages.proofs.Prelude.{ap, ◌∙◌, subst, IsUtf8, is_text}
 use Rattle.entry_pages.proofs.Slimmed.{text_is}
 use Rattle.entry_pages.proofs.slims.text_len.Goals as goal
 

@@ -1,11 +1,4 @@
-use Rattle.std.proofs.Common.{◌≡◌, ◌+◌, ◌∙◌, ℕ, arith, ap, subst, List}
-use Rattle.std.specs.Prelude.{Some, slice_get}
-use Rattle.std.specs.List.{sum_by}
-use Rattle.std.proofs.lemmas.List.{take_all}
-use Rattle.std.specs.Option.{option_map}
-use Rattle.entry_pages.specs.Private.Slim.{with_text}
-use Rattle.entry_pages.specs.Pack.{Head}
-use Rattle.entry_pages.specs.Pack.{path_len}
+use Rattle.entry_pages.proofs.Prelude.{◌≡◌, ◌+◌, ◌∙◌, ℕ, arith, ap, subst, List, Some, slice_get, sum_by, take_all, option_map, with_text, Head, path_len}
 use Rattle.entry_pages.proofs.Counted.{bytes_more}
 use Rattle.entry_pages.proofs.summaries.path_bytes.Goals as goal
 

@@ -1,6 +1,4 @@
-use Rattle.std.proofs.Common.{◌≡◌, ◌≤◌, ◌*◌, ◌^◌, take}
-use Rattle.std.specs.List.{sum_by}
-use Rattle.entry_pages.specs.Pack.{path_len}
+use Rattle.entry_pages.proofs.Prelude.{◌≡◌, ◌≤◌, ◌*◌, ◌^◌, take, sum_by, path_len}
 use Rattle.entry_pages.proofs.summaries.path_bytes.Given as goal
 
 -- what was counted, and that it is not much

@@ -1,12 +1,6 @@
-use Rattle.std.proofs.Common.{◌≡◌, ◌+◌, ◌∙◌, ℕ, arith, ap, subst, List, []}
-use Rattle.std.specs.Prelude.{Some, slice_get, is_some}
-use Rattle.std.proofs.lemmas.List.{take_all}
-use Rattle.std.specs.Option.{option_map}
-use Rattle.entry_pages.specs.Private.Slim.{with_text}
-use Rattle.entry_pages.specs.Pack.{Head}
+use Rattle.entry_pages.proofs.Prelude.{◌≡◌, ◌+◌, ◌∙◌, ℕ, arith, ap, subst, List, [], Some, slice_get, is_some, take_all, option_map, with_text, Head, is_of}
+use Rattle.entry_pages.proofs.Prelude.{summary_of, unpacked}
 use Rattle.outside.specs.declared.trees.Kind.TheVariants as kind
-use Rattle.entry_pages.specs.Entries.{is_of, summary_of}
-use Rattle.entry_pages.specs.Pack.{unpacked}
 use Rattle.entry_pages.proofs.Counted.{Counts, one_more, counted_more, as_long, bit}
 use Rattle.entry_pages.proofs.summaries.summary_of.Goals as goal
 

@@ -1,6 +1,4 @@
-use Rattle.std.proofs.Common.{◌≡◌, ◌≤◌, ◌*◌, ◌^◌, List, ℕ, [], take}
-use Rattle.entry_pages.specs.Entries.{summary_of}
-use Rattle.entry_pages.specs.Pack.{unpacked}
+use Rattle.entry_pages.proofs.Prelude.{◌≡◌, ◌≤◌, ◌*◌, ◌^◌, List, ℕ, [], take, summary_of, unpacked}
 use Rattle.entry_pages.proofs.summaries.summary_of.Given as goal
 
 -- what was counted, and that it is not much

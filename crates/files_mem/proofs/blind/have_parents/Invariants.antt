@@ -1,7 +1,4 @@
-use Rattle.std.proofs.Common.{◌≡◌, ◌<◌, ℕ, true, List, Some, slice_get}
-use Rattle.std.specs.FinMap.{get}
-use Rattle.path_text.specs.Path.{parent_of}
-use Rattle.outside.specs.Tree.{is_dir}
+use Rattle.files_mem.proofs.Prelude.{◌≡◌, ◌<◌, ℕ, true, List, Some, slice_get, get, parent_of, is_dir}
 use Rattle.files_mem.proofs.blind.have_parents.Given as goal
 
 abbrev pub invariant-loop-top : goal.invariant-loop-top

@@ -1,7 +1,4 @@
-use Rattle.std.proofs.Common.{◌≡◌, ◌++◌, ◌∷◌, [], false, true, nat_eq, refl, ap, ◌∙◌, sym}
-use Rattle.std.specs.List.{starts_with}
-use Rattle.path_text.specs.Order.{front}
-use Rattle.outside.specs.Tree.{is_one_name}
+use Rattle.files_mem.proofs.Prelude.{◌≡◌, ◌++◌, ◌∷◌, [], false, true, nat_eq, refl, ap, ◌∙◌, sym, starts_with, front, is_one_name}
 use Rattle.files_mem.proofs.Listed.{Listable, names_are, names_long, reading_begins, reading_other, reading_child, reading_shorter, reading_stops, reading_ends}
 use Rattle.files_mem.proofs.child_names.list.Goals as goal
 use Rattle.files_mem.proofs.child_names.list.Goals.{In-Some-strip}

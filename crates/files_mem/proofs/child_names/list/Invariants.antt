@@ -1,5 +1,4 @@
-use Rattle.std.proofs.Common.{◌≡◌, ◌++◌, ◌∷◌, [], length}
-use Rattle.path_text.specs.Order.{front}
+use Rattle.files_mem.proofs.Prelude.{◌≡◌, ◌++◌, ◌∷◌, [], length, front}
 use Rattle.files_mem.proofs.Listed.{Listable, Reading}
 use Rattle.files_mem.proofs.child_names.list.Given as goal
 

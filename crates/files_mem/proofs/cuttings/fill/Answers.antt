@@ -1,6 +1,4 @@
-use Rattle.std.proofs.Common.{◌++◌, ap, ◌∙◌, sym, arith, length, take}
-use Rattle.std.specs.Vec.{vec_capacity}
-use Rattle.files_mem.specs.Spanned.{Spanned, bytes_of_all}
+use Rattle.files_mem.proofs.Prelude.{◌++◌, ap, ◌∙◌, sym, arith, length, take, vec_capacity, Spanned, bytes_of_all}
 use Rattle.files_mem.proofs.Spanning.{joined_on, room_left}
 use Rattle.files_mem.proofs.cuttings.fill.Goals as goal
 

@@ -1,6 +1,4 @@
-use Rattle.std.proofs.Common.{◌≡◌, ◌≤◌, take}
-use Rattle.std.specs.Vec.{vec_capacity}
-use Rattle.files_mem.specs.Spanned.{bytes_of_all}
+use Rattle.files_mem.proofs.Prelude.{◌≡◌, ◌≤◌, take, vec_capacity, bytes_of_all}
 use Rattle.files_mem.proofs.cuttings.fill.Given as goal
 
 abbrev pub invariant-loop-span : goal.invariant-loop-span

@@ -1,7 +1,4 @@
-use Rattle.std.proofs.Common.{◌≡◌, ◌≤◌}
-use Rattle.std.specs.Arc.{arc_value}
-use Rattle.std.specs.Vec.{vec_len, vec_capacity}
-use Rattle.files_mem.specs.PrivateHeld.{laid_all}
+use Rattle.files_mem.proofs.Prelude.{◌≡◌, ◌≤◌, arc_value, vec_len, vec_capacity, laid_all}
 use Rattle.files_mem.proofs.held.settle.Given as goal
 
 abbrev pub invariant-loop-alloc : goal.invariant-loop-alloc

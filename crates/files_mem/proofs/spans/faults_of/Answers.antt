@@ -1,6 +1,4 @@
-use Rattle.std.proofs.Common.{ap, arith}
-use Rattle.std.proofs.lemmas.List.Sums.{sum_by_more}
-use Rattle.files_mem.specs.Spanned.{Spanned}
+use Rattle.files_mem.proofs.Prelude.{ap, arith, sum_by_more, Spanned}
 use Rattle.files_mem.proofs.spans.faults_of.Goals as goal
 
 pub loop-span-preserved : goal.loop-span-preserved

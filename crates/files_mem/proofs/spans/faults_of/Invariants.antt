@@ -1,6 +1,4 @@
-use Rattle.std.proofs.Common.{◌≡◌, take}
-use Rattle.std.specs.List.{sum_by}
-use Rattle.outside.specs.Count.{capped}
+use Rattle.files_mem.proofs.Prelude.{◌≡◌, take, sum_by, capped}
 use Rattle.files_mem.proofs.spans.faults_of.Given as goal
 
 abbrev pub invariant-loop-span : goal.invariant-loop-span

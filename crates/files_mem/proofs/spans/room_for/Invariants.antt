@@ -1,5 +1,4 @@
-use Rattle.std.proofs.Common.{◌≡◌, length, take}
-use Rattle.std.specs.List.{sum_by}
+use Rattle.files_mem.proofs.Prelude.{◌≡◌, length, take, sum_by}
 use Rattle.files_mem.proofs.spans.room_for.Given as goal
 
 abbrev pub invariant-loop-span : goal.invariant-loop-span

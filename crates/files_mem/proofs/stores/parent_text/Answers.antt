@@ -1,7 +1,4 @@
-use Rattle.std.proofs.Common.{◌≡◌, ap, ◌∙◌, sym, arith, cond, eqb, take, ◌-◌, ◌∷◌, [], ℕ, List}
-use Rattle.std.proofs.lemmas.Bool.Decides.{nat_tests}
-use Rattle.std.proofs.lemmas.Str.Pattern.{rfind_char}
-use Rattle.path_text.specs.Path.{parent_of}
+use Rattle.files_mem.proofs.Prelude.{◌≡◌, ap, ◌∙◌, sym, arith, cond, eqb, take, ◌-◌, ◌∷◌, [], ℕ, List, nat_tests, rfind_char, parent_of}
 use Rattle.files_mem.proofs.Parent.{parent_is}
 use Rattle.files_mem.proofs.stores.parent_text.Goals as goal
 

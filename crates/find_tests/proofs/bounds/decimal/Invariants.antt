@@ -1,5 +1,4 @@
-use Rattle.std.proofs.Common.{◌≡◌, ◌-◌, ◌^◌, min, take}
-use Rattle.find_tests.specs.Bounds.{decimal}
+use Rattle.find_tests.proofs.Prelude.{◌≡◌, ◌-◌, ◌^◌, min, take, decimal}
 use Rattle.find_tests.proofs.bounds.decimal.Given as goal
 
 abbrev pub invariant-loop-digit : goal.invariant-loop-digit

@@ -1,8 +1,5 @@
-use Rattle.std.proofs.Common.{◌≡◌, ◌++◌, length, sym, ap, ◌∙◌, arith, length-append}
-use Rattle.std.proofs.lemmas.Str.{chars_past_char, chars-nil, length-encode, len_utf8_bounds}
-use Rattle.std.proofs.lemmas.List.{nil_from_length}
-use Rattle.std.specs.Str.{chars}
-use Rattle.std.specs.Prelude.{encode_utf8}
+use Rattle.find_tests.proofs.Prelude.{◌≡◌, ◌++◌, length, sym, ap, ◌∙◌, arith, length-append, chars_past_char, chars-nil, length-encode, len_utf8_bounds}
+use Rattle.find_tests.proofs.Prelude.{nil_from_length, chars, encode_utf8}
 use Rattle.find_tests.proofs.characters.next_char.Goals as goal
 
 pub returns-in-Some : goal.returns-in-Some

@@ -1,6 +1,4 @@
-use Rattle.std.proofs.Common.{rules, ◌≡◌, ◌∷◌, length, ap, ◌∙◌, sym, subst, arith}
-use Rattle.std.specs.Str.{chars}
-use Rattle.find_tests.specs.declared.pieces.Piece.TheVariants.{AnyText, OneOf}
+use Rattle.find_tests.proofs.Prelude.{rules, ◌≡◌, ◌∷◌, length, ap, ◌∙◌, sym, subst, arith, chars, AnyText, OneOf}
 use Rattle.find_tests.proofs.Matched.{Follows, fails_with_more, fails_at, follows_one, alone_at_star, starred_at_star}
 use Rattle.find_tests.proofs.matching.front_of.Goals as goal
 

@@ -1,7 +1,4 @@
-use Rattle.std.proofs.Common.{◌≤◌, length}
-use denote.Text.{Utf8}
-use denote.Shadow.{shadow}
-use Rattle.std.specs.Str.{chars}
+use Rattle.find_tests.proofs.Prelude.{◌≤◌, length, Utf8, shadow, chars}
 use Rattle.find_tests.proofs.Matched.{Follows}
 use Rattle.find_tests.proofs.matching.front_of.Given as goal
 

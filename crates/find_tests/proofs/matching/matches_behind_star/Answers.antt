@@ -1,5 +1,4 @@
-use Rattle.std.proofs.Common.{sym, ◌∙◌}
-use Rattle.std.specs.Str.{chars}
+use Rattle.find_tests.proofs.Prelude.{sym, ◌∙◌, chars}
 use Rattle.find_tests.proofs.Matched.{star_whole}
 use Rattle.find_tests.proofs.matching.matches_behind_star.Goals as goal
 

@@ -1,9 +1,4 @@
-use Rattle.std.proofs.Common.{◌≡◌, ◌+◌, ◌∷◌, length}
-use denote.Text.{Utf8}
-use denote.Shadow.{shadow}
-use Rattle.std.specs.Str.{chars}
-use Rattle.find_tests.specs.Matching.{matches}
-use Rattle.find_tests.specs.declared.pieces.Piece.TheVariants.{AnyText}
+use Rattle.find_tests.proofs.Prelude.{◌≡◌, ◌+◌, ◌∷◌, length, Utf8, shadow, chars, matches, AnyText}
 use Rattle.find_tests.proofs.matching.matches_behind_star.Given as goal
 
 abbrev pub invariant-loop-behind : goal.invariant-loop-behind

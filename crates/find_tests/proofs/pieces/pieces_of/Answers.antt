@@ -1,4 +1,4 @@
-use Rattle.std.proofs.Common.{ap, arith, length}
+use Rattle.find_tests.proofs.Prelude.{ap, arith, length}
 use Rattle.find_tests.proofs.Parsed.{length-behind_piece, pieces_step, pieces_end}
 use Rattle.find_tests.proofs.Closing.{passed_one}
 use Rattle.find_tests.proofs.pieces.pieces_of.Goals as goal

@@ -1,8 +1,4 @@
-use Rattle.std.proofs.Common.{◌≡◌, ◌++◌, length}
-use Rattle.std.specs.Str.{chars}
-use Rattle.find_tests.specs.Signs.{signs_of}
-use Rattle.find_tests.specs.Glob.{pieces_of}
-use Rattle.find_tests.specs.Private.Brackets.{NoneCloses}
+use Rattle.find_tests.proofs.Prelude.{◌≡◌, ◌++◌, length, chars, signs_of, pieces_of, NoneCloses}
 use Rattle.find_tests.proofs.pieces.pieces_of.Given as goal
 
 -- the pieces so far and those still to come, and what is known of brackets

@@ -1,5 +1,4 @@
-use Rattle.std.proofs.Common.{◌≡◌, ◌++◌, length}
-use Rattle.find_tests.specs.Glob.{before_close, behind_close, has_close, ranges_of, members, behind_members, is_closed}
+use Rattle.find_tests.proofs.Prelude.{◌≡◌, ◌++◌, length, before_close, behind_close, has_close, ranges_of, members, behind_members, is_closed}
 use Rattle.find_tests.proofs.pieces.read_ranges.Given as goal
 
 -- the members that were read, and that what is left tells the rest

@@ -1,8 +1,4 @@
-use Rattle.std.proofs.Common.{arith, ◌≤◌, ◌∙◌, List, length, filter, ap, subst}
-use Rattle.std.proofs.lemmas.Bool.Decides.{nat_tests}
-use Rattle.std.proofs.lemmas.List.{take_all}
-use Rattle.entry_pages.specs.declared.entries.Entry.{Entry}
-use Rattle.find_tests.specs.Tests.{is_selected}
+use Rattle.find_tests.proofs.Prelude.{arith, ◌≤◌, ◌∙◌, List, length, filter, ap, subst, nat_tests, take_all, Entry, is_selected}
 use Rattle.find_tests.proofs.selecting.select.Goals as goal
 
 pub returns : goal.returns

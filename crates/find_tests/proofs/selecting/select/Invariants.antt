@@ -1,5 +1,4 @@
-use Rattle.std.proofs.Common.{◌≡◌, ◌-◌, ◌≤◌, length, take, filter}
-use Rattle.find_tests.specs.Tests.{is_selected}
+use Rattle.find_tests.proofs.Prelude.{◌≡◌, ◌-◌, ◌≤◌, length, take, filter, is_selected}
 use Rattle.find_tests.proofs.selecting.select.Given as goal
 
 -- what was selected of the entries that were passed

@@ -1,10 +1,6 @@
-use Rattle.std.proofs.Common.{rules, arith, ◌≡◌, List, [], filter, is_some, length, sym, subst}
-use Rattle.std.specs.List.{count_by}
-use Rattle.std.proofs.lemmas.Bool.Decides.{nat_tests}
-use Rattle.std.proofs.lemmas.Fn.{filter_same}
-use Rattle.std.proofs.lemmas.List.{nil_from_length}
-use Rattle.find_tests.specs.Tests.{is_selected}
-use Rattle.find_tests.specs.declared.testing.Test.{Test}
+use Rattle.find_tests.proofs.Prelude.{rules, arith, ◌≡◌, List, [], filter, length, sym, subst, count_by, nat_tests, filter_same, nil_from_length, is_selected}
+use Rattle.find_tests.proofs.Prelude.{Test}
+use Rattle.std.proofs.Common.{is_some}
 use Rattle.find_tests.proofs.Selected.{all_selected}
 use Rattle.find_tests.proofs.selecting.select_from.Goals as goal
 

@@ -1,5 +1,4 @@
-use Rattle.std.proofs.Common.{◌≡◌, ◌+◌, ap, refl, subst, ◌∙◌, max, take}
-use Rattle.flat_list.specs.Orders.{level_count}
+use Rattle.flat_list.proofs.Prelude.{◌≡◌, ◌+◌, ap, refl, subst, ◌∙◌, max, take, level_count}
 use Rattle.flat_list.proofs.Dealt.{count_kept, count_all}
 use Rattle.flat_list.proofs.Turns.{passes, turn_at, of_list, one_on, inside, no_more}
 use Rattle.flat_list.proofs.dealing.level_count.Goals as goal

@@ -1,5 +1,4 @@
-use Rattle.std.proofs.Common.{◌≡◌, ◌-◌, ◌≤◌, length, take}
-use Rattle.flat_list.specs.Orders.{level_count}
+use Rattle.flat_list.proofs.Prelude.{◌≡◌, ◌-◌, ◌≤◌, length, take, level_count}
 use Rattle.flat_list.proofs.dealing.level_count.Given as goal
 
 -- the levels of the entries that were passed

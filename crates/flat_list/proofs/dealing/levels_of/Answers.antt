@@ -1,9 +1,4 @@
-use Rattle.std.proofs.Common.{rules, arith, take, ap, ◌∙◌, ◌+◌, Vec, Global, ℕ, List}
-use Rattle.std.proofs.Common.{map}
-use Rattle.std.specs.List.{range_with_len}
-use Rattle.std.proofs.lemmas.List.{take_all}
-use Rattle.entry_pages.specs.declared.entries.Entry.{Entry}
-use Rattle.flat_list.specs.Orders.{places_at, level_count}
+use Rattle.flat_list.proofs.Prelude.{rules, arith, take, ap, ◌∙◌, ◌+◌, Vec, Global, ℕ, List, map, range_with_len, take_all, Entry, places_at, level_count}
 use Rattle.flat_list.proofs.Dealt.{Turn, Holds, levels_kept, below_here, as_many}
 use Rattle.flat_list.proofs.Turns.{passes_at, turn_at, next_at}
 use Rattle.flat_list.proofs.dealing.levels_of.Goals as goal

@@ -1,5 +1,4 @@
-use Rattle.std.proofs.Common.{[], ◌∙◌}
-use Rattle.flat_list.specs.Orders.{dealt}
+use Rattle.flat_list.proofs.Prelude.{[], ◌∙◌, dealt}
 use Rattle.flat_list.proofs.Dealt.{listed_same}
 use Rattle.flat_list.proofs.dealing.no_entries.Goals as goal
 

@@ -1,6 +1,4 @@
-use Rattle.std.proofs.Common.{◌≡◌, map, []}
-use Rattle.std.specs.List.{range_with_len}
-use Rattle.flat_list.specs.Orders.{dealt}
+use Rattle.flat_list.proofs.Prelude.{◌≡◌, map, [], range_with_len, dealt}
 use Rattle.flat_list.proofs.dealing.no_entries.Given as goal
 
 abbrev pub invariant-loop : goal.invariant-loop

@@ -1,5 +1,4 @@
-use Rattle.std.proofs.Common.{map, [], ap, ◌∙◌, Vec, Global, ℕ}
-use Rattle.flat_list.specs.Orders.{places_at}
+use Rattle.flat_list.proofs.Prelude.{map, [], ap, ◌∙◌, Vec, Global, ℕ, places_at}
 use Rattle.flat_list.proofs.Dealt.{listed_more}
 use Rattle.flat_list.proofs.dealing.no_places.Goals as goal
 

@@ -1,6 +1,4 @@
-use Rattle.std.proofs.Common.{◌≡◌, map, []}
-use Rattle.std.specs.List.{range_with_len}
-use Rattle.flat_list.specs.Orders.{places_at}
+use Rattle.flat_list.proofs.Prelude.{◌≡◌, map, [], range_with_len, places_at}
 use Rattle.flat_list.proofs.dealing.no_places.Given as goal
 
 abbrev pub invariant-loop : goal.invariant-loop

@@ -1,9 +1,4 @@
-use Rattle.std.proofs.Common.{rules, arith, take, ap, ◌∙◌, ◌+◌, ◌%◌, ℕ, List}
-use Rattle.std.proofs.Common.{map}
-use Rattle.std.specs.List.{range_with_len}
-use Rattle.std.proofs.lemmas.List.{take_all}
-use Rattle.entry_pages.specs.declared.entries.Entry.{Entry}
-use Rattle.flat_list.specs.Orders.{dealt}
+use Rattle.flat_list.proofs.Prelude.{rules, arith, take, ap, ◌∙◌, ◌+◌, ◌%◌, ℕ, List, map, range_with_len, take_all, Entry, dealt}
 use Rattle.flat_list.proofs.Dealt.{Turn, Holds, pieces_kept, same_list, as_many}
 use Rattle.flat_list.proofs.Turns.{passes_at, turn_at, next_at}
 use Rattle.flat_list.proofs.dealing.pieces_of.Goals as goal

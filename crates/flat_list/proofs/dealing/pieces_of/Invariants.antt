@@ -1,6 +1,4 @@
-use Rattle.std.proofs.Common.{◌≡◌, map, take}
-use Rattle.std.specs.List.{range_with_len}
-use Rattle.flat_list.specs.Orders.{dealt}
+use Rattle.flat_list.proofs.Prelude.{◌≡◌, map, take, range_with_len, dealt}
 use Rattle.flat_list.proofs.dealing.pieces_of.Given as goal
 
 abbrev pub invariant-loop-at : goal.invariant-loop-at

@@ -1,8 +1,5 @@
-use Rattle.std.proofs.Common.{rules, ◌≡◌, ◌∙◌, ap, sym, None, Some, Option, ℕ, List, [], ◌∷◌, ◌++◌}
-use Rattle.std.specs.Option.{option_map}
-use Rattle.std.specs.Str.{IsUtf8}
-use Rattle.entry_pages.specs.declared.entries.Entry.{Entry}
-use Rattle.flat_list.specs.Private.Reading.{entry_behind, behind_target, line_count}
+use Rattle.flat_list.proofs.Prelude.{rules, ◌≡◌, ◌∙◌, ap, sym, None, Some, Option, ℕ, List, [], ◌∷◌, ◌++◌, option_map, IsUtf8, Entry, entry_behind}
+use Rattle.flat_list.proofs.Prelude.{behind_target, line_count}
 use Rattle.flat_list.proofs.Decoded.{none_behind, found_same, adds_found, read_utf8}
 use Rattle.flat_list.proofs.decoding.add_entry.Goals as goal
 

@@ -1,7 +1,4 @@
-use Rattle.std.proofs.Common.{sym, subst, List, ℕ, Option, Bor}
-use Rattle.std.specs.Prelude.{IfNone}
-use Rattle.flat_list.specs.declared.versions.Version.{Version}
-use Rattle.flat_list.specs.Spelling.{IsRefused}
+use Rattle.flat_list.proofs.Prelude.{sym, subst, List, ℕ, Option, Bor, IfNone, Version, IsRefused}
 use Rattle.flat_list.proofs.Decoded.{header_none, header_other}
 use Rattle.flat_list.proofs.decoding.behind_header.Goals as goal
 

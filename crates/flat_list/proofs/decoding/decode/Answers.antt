@@ -1,10 +1,5 @@
-use Rattle.std.proofs.Common.{rules, arith, ◌≡◌, ◌≤◌, ◌+◌, length, refl, sym, subst, List, None}
-use Rattle.std.proofs.lemmas.Result.{IfOk-weaker, MatchResult-weaker}
-use Rattle.entry_pages.specs.declared.entries.Entry.{Entry}
-use Rattle.flat_list.specs.Spelling.{entry_lines, Spells, max_entries, IsCause, IsRefused}
-use Rattle.whole_lines.specs.Lines.{lines_of}
-use Rattle.whole_lines.specs.Words.{cut}
-use Rattle.flat_list.specs.Private.Reading.{entry_at, NoneFollows, IsLast}
+use Rattle.flat_list.proofs.Prelude.{rules, arith, ◌≡◌, ◌≤◌, ◌+◌, length, refl, sym, subst, List, None, IfOk-weaker, MatchResult-weaker, Entry, entry_lines}
+use Rattle.flat_list.proofs.Prelude.{Spells, max_entries, IsCause, IsRefused, lines_of, cut, entry_at, NoneFollows, IsLast}
 use Rattle.flat_list.proofs.Damage.{Undoes, Stands, line_len}
 use Rattle.flat_list.proofs.Decoded.{Reads, starts, bad_torn, bad_text, at_end, past_end, too_long}
 use Rattle.flat_list.proofs.Grown.{Grown, none_holds, grown}

@@ -1,7 +1,4 @@
-use Rattle.std.proofs.Common.{◌≡◌, ◌+◌, ◌≤◌, length}
-use Rattle.flat_list.specs.Spelling.{entry_lines, max_entries}
-use Rattle.whole_lines.specs.Lines.{lines_of}
-use Rattle.flat_list.specs.Private.Reading.{IsLast, IsSettled}
+use Rattle.flat_list.proofs.Prelude.{◌≡◌, ◌+◌, ◌≤◌, length, entry_lines, max_entries, lines_of, IsLast, IsSettled}
 use Rattle.flat_list.proofs.Damage.{Stands}
 use Rattle.flat_list.proofs.decoding.decode.Given as goal
 

@@ -1,5 +1,4 @@
-use Rattle.std.proofs.Common.{arith, ◌++◌, ◌∙◌, refl, ap, subst}
-use Rattle.whole_lines.specs.Lines.{line, end_text}
+use Rattle.flat_list.proofs.Prelude.{arith, ◌++◌, ◌∙◌, refl, ap, subst, line, end_text}
 use Rattle.flat_list.proofs.Encoded.{Written, one_written, spells}
 use Rattle.flat_list.proofs.Turns.{passes, turn_at, of_list, one_on, inside, no_more}
 use Rattle.flat_list.proofs.encoding.encode.Goals as goal

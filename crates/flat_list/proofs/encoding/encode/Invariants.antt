@@ -1,4 +1,4 @@
-use Rattle.std.proofs.Common.{◌≡◌, ◌-◌, ◌≤◌, length}
+use Rattle.flat_list.proofs.Prelude.{◌≡◌, ◌-◌, ◌≤◌, length}
 use Rattle.flat_list.proofs.Encoded.{Written}
 use Rattle.flat_list.proofs.encoding.encode.Given as goal
 

@@ -1,10 +1,4 @@
-use Rattle.std.proofs.Common.{rules, ◌∙◌, ap, [], ◌∷◌, ◌++◌}
-use Rattle.std.specs.Fmt.{decimal}
-use Rattle.path_text.specs.Escape.{escape}
-use Rattle.entry_pages.specs.Entries.{size_by}
-use Rattle.flat_list.specs.Orders.{time_of}
-use Rattle.flat_list.specs.Spelling.{kind_by, kind_word, time_word, mark_word}
-use Rattle.flat_list.specs.Private.Reading.{IsWritten}
+use Rattle.flat_list.proofs.Prelude.{rules, ◌∙◌, ap, [], ◌∷◌, ◌++◌, decimal, escape, size_by, time_of, kind_by, kind_word, time_word, mark_word, IsWritten}
 use Rattle.flat_list.proofs.Encoded.{words_joined}
 use Rattle.flat_list.proofs.encoding.put_line.Goals as goal
 

@@ -1,4 +1,4 @@
-use Rattle.std.proofs.Common.{rules, ◌≡◌, ◌∙◌, ◌++◌, ap}
+use Rattle.flat_list.proofs.Prelude.{rules, ◌≡◌, ◌∙◌, ◌++◌, ap}
 use Rattle.entry_pages.specs.declared.entries.Mark.TheVariants as marks
 use Rattle.flat_list.proofs.Encoded.{nothing_noted}
 use Rattle.flat_list.proofs.encoding.put_notes.Goals as goal

@@ -1,6 +1,4 @@
-use Rattle.std.proofs.Common.{◌≡◌, take}
-use Rattle.std.specs.List.{list_all}
-use Rattle.flat_list.specs.Private.Reading.{is_plain}
+use Rattle.flat_list.proofs.Prelude.{◌≡◌, take, list_all, is_plain}
 use Rattle.flat_list.proofs.following.are_plain.Given as goal
 
 abbrev pub invariant-loop-b : goal.invariant-loop-b

@@ -1,6 +1,4 @@
-use Rattle.std.proofs.Common.{rules, arith, true, ◌≡◌, ◌+◌, drop, take, ◌∙◌, sym, subst}
-use Rattle.path_text.proofs.Words.{rest_of}
-use Rattle.flat_list.specs.Private.Reading.{IsFront, IsPlainName}
+use Rattle.flat_list.proofs.Prelude.{rules, arith, true, ◌≡◌, ◌+◌, drop, take, ◌∙◌, sym, subst, rest_of, IsFront, IsPlainName}
 use Rattle.flat_list.proofs.Decoded.{nots}
 use Rattle.flat_list.proofs.Near.{near}
 use Rattle.flat_list.proofs.following.last_name.Goals as goal

@@ -1,6 +1,4 @@
-use Rattle.std.proofs.Common.{rules, ◌≡◌, true, false, ◌∙◌, sym, ap, subst}
-use Rattle.std.specs.Str.{is_utf8, IsUtf8}
-use Rattle.std.proofs.lemmas.Str.{IsUtf8-from_is_utf8}
+use Rattle.flat_list.proofs.Prelude.{rules, ◌≡◌, true, false, ◌∙◌, sym, ap, subst, is_utf8, IsUtf8, IsUtf8-from_is_utf8}
 use Rattle.flat_list.proofs.Decoded.{nots}
 use Rattle.flat_list.proofs.Near.{near_rewritten, near_utf8, near_yes, near_no}
 use Rattle.flat_list.proofs.following.moved.Goals as goal

@@ -1,8 +1,4 @@
-use Rattle.std.proofs.Common.{◌∙◌, ap, sym, Vec, Global, List}
-use Rattle.std.specs.List.Sorted.{IsPermutation}
-use Rattle.std.proofs.lemmas.Grind.{flat_map-append}
-use Rattle.std.proofs.lemmas.Result.{IfOk-at_ok}
-use Rattle.entry_pages.specs.declared.entries.Entry.{Entry}
+use Rattle.flat_list.proofs.Prelude.{◌∙◌, ap, sym, Vec, Global, List, IsPermutation, flat_map-append, IfOk-at_ok, Entry}
 use Rattle.flat_list.proofs.Halved.{halves_moved}
 use Rattle.flat_list.proofs.Merged.{flat, same}
 use Rattle.flat_list.proofs.halving.+halves.Goals as goal

@@ -1,4 +1,4 @@
-use Rattle.std.proofs.Common.{◌+◌, ◌-◌, ◌*◌}
+use Rattle.flat_list.proofs.Prelude.{◌+◌, ◌-◌, ◌*◌}
 use Rattle.flat_list.proofs.halving.+halves.Given as goal
 
 abbrev pub decreases-back : goal.decreases-back

@@ -1,5 +1,4 @@
-use Rattle.std.proofs.Common.{rules}
-use Rattle.std.proofs.lemmas.List.Sorted.{IsPermutation-trans}
+use Rattle.flat_list.proofs.Prelude.{rules, IsPermutation-trans}
 use Rattle.flat_list.proofs.Merged.{one_gives}
 use Rattle.flat_list.proofs.merging.give_in_turn.Goals as goal
 

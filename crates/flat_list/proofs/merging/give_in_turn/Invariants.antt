@@ -1,6 +1,4 @@
-use Rattle.std.proofs.Common.{◌++◌}
-use Rattle.std.specs.List.{flat_map}
-use Rattle.std.specs.List.Sorted.{IsPermutation}
+use Rattle.flat_list.proofs.Prelude.{◌++◌, flat_map, IsPermutation}
 use Rattle.flat_list.proofs.merging.give_in_turn.Given as goal
 
 abbrev pub invariant-loop : goal.invariant-loop

@@ -1,6 +1,4 @@
-use Rattle.std.proofs.Common.{◌++◌, ◌∙◌, ap, sym, List}
-use Rattle.std.proofs.lemmas.List.{append_assoc}
-use Rattle.entry_pages.specs.declared.entries.Entry.{Entry}
+use Rattle.flat_list.proofs.Prelude.{◌++◌, ◌∙◌, ap, sym, List, append_assoc, Entry}
 use Rattle.flat_list.proofs.Merged.{flat, flat_more}
 use Rattle.flat_list.proofs.merging.give_rest.Goals as goal
 

@@ -1,5 +1,4 @@
-use Rattle.std.proofs.Common.{◌≡◌, ◌++◌}
-use Rattle.std.specs.List.{flat_map}
+use Rattle.flat_list.proofs.Prelude.{◌≡◌, ◌++◌, flat_map}
 use Rattle.flat_list.proofs.merging.give_rest.Given as goal
 
 abbrev pub invariant-loop-source : goal.invariant-loop-source

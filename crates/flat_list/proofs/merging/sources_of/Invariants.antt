@@ -1,4 +1,4 @@
-use Rattle.std.proofs.Common.{◌≡◌, take}
+use Rattle.flat_list.proofs.Prelude.{◌≡◌, take}
 use Rattle.flat_list.proofs.merging.sources_of.Given as goal
 
 abbrev pub invariant-loop-run : goal.invariant-loop-run

@@ -1,7 +1,4 @@
-use Rattle.std.proofs.Common.{◌++◌, sym, subst, List}
-use Rattle.std.specs.List.Sorted.{IsPermutation}
-use Rattle.std.proofs.lemmas.List.Sorted.{IsPermutation-trans}
-use Rattle.entry_pages.specs.declared.entries.Entry.{Entry}
+use Rattle.flat_list.proofs.Prelude.{◌++◌, sym, subst, List, IsPermutation, IsPermutation-trans, Entry}
 use Rattle.flat_list.proofs.Merged.{flat}
 use Rattle.flat_list.proofs.Cuts.{taken}
 use Rattle.flat_list.proofs.merging.turned.Goals as goal

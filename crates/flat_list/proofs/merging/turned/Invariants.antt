@@ -1,6 +1,4 @@
-use Rattle.std.proofs.Common.{◌++◌, vec_len}
-use Rattle.std.specs.List.{flat_map}
-use Rattle.std.specs.List.Sorted.{IsPermutation}
+use Rattle.flat_list.proofs.Prelude.{◌++◌, vec_len, flat_map, IsPermutation}
 use Rattle.flat_list.proofs.merging.turned.Given as goal
 
 -- the runs that are left, and what was joined of the others

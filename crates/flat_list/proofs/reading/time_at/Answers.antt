@@ -1,4 +1,4 @@
-use Rattle.std.proofs.Common.{sym}
+use Rattle.flat_list.proofs.Prelude.{sym}
 use Rattle.flat_list.proofs.Times.{number_is_time}
 use Rattle.flat_list.proofs.reading.time_at.Goals as goal
 

@@ -1,7 +1,4 @@
-use Rattle.std.proofs.Common.{◌++◌, subst, List}
-use Rattle.std.specs.List.Sorted.{IsPermutation}
-use Rattle.entry_pages.specs.declared.entries.Entry.{Entry}
-use Rattle.flat_list.specs.Private.Cut.{all_of}
+use Rattle.flat_list.proofs.Prelude.{◌++◌, subst, List, IsPermutation, Entry, all_of}
 use Rattle.flat_list.proofs.Merged.{log_more}
 use Rattle.flat_list.proofs.runs.cut_each.Goals as goal
 

@@ -1,6 +1,4 @@
-use Rattle.std.specs.List.{flat_map}
-use Rattle.std.specs.List.Sorted.{IsPermutation}
-use Rattle.flat_list.specs.Private.Cut.{all_of}
+use Rattle.flat_list.proofs.Prelude.{flat_map, IsPermutation, all_of}
 use Rattle.flat_list.proofs.runs.cut_of.Given as goal
 
 abbrev pub invariant-loop-log : goal.invariant-loop-log

@@ -1,4 +1,4 @@
-use Rattle.std.proofs.lemmas.List.Sorted.{IsPermutation-trans}
+use Rattle.flat_list.proofs.Prelude.{IsPermutation-trans}
 use Rattle.flat_list.proofs.runs.runs_of.Goals as goal
 
 pub returns : goal.returns

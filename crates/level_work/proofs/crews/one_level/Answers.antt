@@ -1,13 +1,6 @@
-use Rattle.std.proofs.Common.{ap, subst, sym, ◌∙◌, [], Some, arith, length}
-use Rattle.std.proofs.lemmas.List.{length-map}
-use Rattle.std.proofs.lemmas.Option.{slice_get-get_or}
-use Rattle.outside.specs.Writes.{all_but}
-use Rattle.level_work.specs.Counts.{NoneAtEnd}
-use Rattle.level_work.specs.Private.Lots.{part_tree, part_area, part_count}
-use Rattle.level_work.specs.Private.Coming.{LevelCame}
-use Rattle.level_work.specs.Private.Crews.{ShowAll}
+use Rattle.level_work.proofs.Prelude.{ap, subst, sym, ◌∙◌, [], Some, arith, length, length-map, slice_get-get_or, all_but, NoneAtEnd, part_tree, part_area}
+use Rattle.level_work.proofs.Prelude.{part_count, LevelCame, ShowAll, sum_by}
 use Rattle.level_work.proofs.Likes.{same_place, likes, likes_back, shares_over, stored_over}
-use Rattle.std.specs.List.{sum_by}
 use Rattle.level_work.proofs.Sums.{sum_blamed, same_failed}
 use Rattle.level_work.proofs.Actors.{act_map, idle_actors, actors_over, worked_actors}
 use Rattle.level_work.proofs.Coming.{same_who, level_came, in_turn_over}

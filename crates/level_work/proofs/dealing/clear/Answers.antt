@@ -1,5 +1,4 @@
-use Rattle.std.proofs.Common.{arith}
-use Rattle.std.proofs.lemmas.Option.{slice_get_within, slice_get-get_or}
+use Rattle.level_work.proofs.Prelude.{arith, slice_get_within, slice_get-get_or}
 use Rattle.level_work.proofs.Deals.{same_seats, all_empty}
 use Rattle.level_work.proofs.dealing.clear.Goals as goal
 

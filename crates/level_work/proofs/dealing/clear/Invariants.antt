@@ -1,6 +1,4 @@
-use Rattle.std.proofs.Common.{◌≡◌, ◌<◌, ℕ, [], Some, false, slice_get}
-use Rattle.level_work.specs.Private.Crews.{SameSeats}
-use Rattle.level_work.specs.declared.lots.Lot.{Lot}
+use Rattle.level_work.proofs.Prelude.{◌≡◌, ◌<◌, ℕ, [], Some, false, slice_get, SameSeats, Lot}
 use Rattle.level_work.proofs.dealing.clear.Given as goal
 
 abbrev pub invariant-loop-i : goal.invariant-loop-i

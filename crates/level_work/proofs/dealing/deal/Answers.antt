@@ -1,5 +1,4 @@
-use Rattle.std.proofs.Common.{arith, rules}
-use Rattle.std.proofs.lemmas.Option.{slice_get-get_or}
+use Rattle.level_work.proofs.Prelude.{arith, rules, slice_get-get_or}
 use Rattle.level_work.proofs.Deals.{dealt_none, dealt_on, fresh_on, turn_none, turn_on, seats_on, all_dealt}
 use Rattle.level_work.proofs.dealing.deal.Goals as goal
 

@@ -1,7 +1,4 @@
-use Rattle.std.proofs.Common.{◌≡◌, ℕ, [], Some, false, slice_get}
-use Rattle.level_work.specs.Private.Crews.{SameSeats}
-use Rattle.level_work.specs.Private.Dealing.{AreInTurn, DealtTo}
-use Rattle.level_work.specs.declared.lots.Lot.{Lot}
+use Rattle.level_work.proofs.Prelude.{◌≡◌, ℕ, [], Some, false, slice_get, SameSeats, AreInTurn, DealtTo, Lot}
 use Rattle.level_work.proofs.dealing.deal.Given as goal
 
 abbrev pub invariant-loop-t : goal.invariant-loop-t

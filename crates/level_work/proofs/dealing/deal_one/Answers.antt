@@ -1,6 +1,4 @@
-use Rattle.std.proofs.Common.{refl}
-use Rattle.std.proofs.lemmas.Option.{slice_get-get_or}
-use Rattle.level_work.specs.Private.Dealing.{dealt_to}
+use Rattle.level_work.proofs.Prelude.{refl, slice_get-get_or, dealt_to}
 use Rattle.level_work.proofs.Crewed.{on_ok}
 use Rattle.level_work.proofs.Deals.{same_seats, seats_here}
 use Rattle.level_work.proofs.dealing.deal_one.Goals as goal

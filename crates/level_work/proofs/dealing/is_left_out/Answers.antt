@@ -1,4 +1,4 @@
-use Rattle.std.proofs.lemmas.Option.{slice_get-get_or}
+use Rattle.level_work.proofs.Prelude.{slice_get-get_or}
 use Rattle.level_work.proofs.Deals.{left_out_by, not_left_out}
 use Rattle.level_work.proofs.Hands.{if_ok}
 use Rattle.level_work.proofs.dealing.is_left_out.Goals as goal

@@ -1,6 +1,4 @@
-use Rattle.std.proofs.Common.{◌≡◌, ◌<◌, ℕ, Some, slice_get}
-use Rattle.path_text.specs.Path.{level_of}
-use Rattle.level_work.specs.declared.items.Item.{Item}
+use Rattle.level_work.proofs.Prelude.{◌≡◌, ◌<◌, ℕ, Some, slice_get, level_of, Item}
 use Rattle.level_work.proofs.dealing.level_count.Given as goal
 
 abbrev pub invariant-loop-item : goal.invariant-loop-item

@@ -1,4 +1,4 @@
-use Rattle.std.proofs.Common.{◌≡◌, ℕ, [], Some, Vec, length, slice_get}
+use Rattle.level_work.proofs.Prelude.{◌≡◌, ℕ, [], Some, Vec, length, slice_get}
 use Rattle.level_work.proofs.dealing.no_places.Given as goal
 
 abbrev pub invariant-loop : goal.invariant-loop

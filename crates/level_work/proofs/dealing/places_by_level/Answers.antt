@@ -1,7 +1,4 @@
-use Rattle.std.proofs.Common.{rules, ◌≡◌, ap, ◌∙◌, sym, subst, arith, map, Vec, Global, ℕ, Some}
-use Rattle.std.proofs.lemmas.Option.{slice_get-get_or}
-use Rattle.level_work.specs.Chain.{AllBelow}
-use Rattle.level_work.specs.Private.Dealing.{AreByLevel}
+use Rattle.level_work.proofs.Prelude.{rules, ◌≡◌, ap, ◌∙◌, sym, subst, arith, map, Vec, Global, ℕ, Some, slice_get-get_or, AllBelow, AreByLevel}
 use Rattle.level_work.proofs.Deals.{no_levels, one_place_more, set_below}
 use Rattle.level_work.proofs.dealing.places_by_level.Goals as goal
 

@@ -1,6 +1,4 @@
-use Rattle.std.proofs.Common.{map, length}
-use Rattle.level_work.specs.Chain.{AllBelow}
-use Rattle.level_work.specs.Private.Dealing.{AreByLevel}
+use Rattle.level_work.proofs.Prelude.{map, length, AllBelow, AreByLevel}
 use Rattle.level_work.proofs.dealing.places_by_level.Given as goal
 
 abbrev pub invariant-loop-k : goal.invariant-loop-k

@@ -1,6 +1,4 @@
-use Rattle.std.proofs.Common.{arith, length, ap}
-use Rattle.std.proofs.lemmas.List.{length_push}
-use Rattle.std.specs.Vec.Iter.{into_iter_items}
+use Rattle.level_work.proofs.Prelude.{arith, length, ap, length_push, into_iter_items}
 use Rattle.level_work.proofs.Hands.{rest_more, home_more}
 use Rattle.level_work.proofs.hiring.hired.Goals as goal
 

@@ -1,7 +1,4 @@
-use Rattle.std.proofs.Common.{ap, subst, sym, ◌∙◌, arith, IfSome, is_some}
-use Rattle.std.proofs.lemmas.Option.{slice_get_within, slice_get-get_or}
-use Rattle.level_work.specs.Private.Lots.{part_tree, part_area}
-use Rattle.level_work.specs.Private.Crews.{AllBack}
+use Rattle.level_work.proofs.Prelude.{ap, subst, sym, ◌∙◌, arith, IfSome, is_some, slice_get_within, slice_get-get_or, part_tree, part_area, AllBack}
 use Rattle.level_work.proofs.Giving.{start, step, is_out_now, take_all}
 use Rattle.level_work.proofs.leasing.give_all.Goals as goal
 

@@ -1,5 +1,4 @@
-use Rattle.level_work.specs.Private.Lots.{part_tree, part_area, part_count}
-use Rattle.level_work.specs.Private.Giving.{Giving}
+use Rattle.level_work.proofs.Prelude.{part_tree, part_area, part_count, Giving}
 use Rattle.level_work.proofs.leasing.give_all.Given as goal
 
 abbrev pub invariant-loop-i : goal.invariant-loop-i

@@ -1,7 +1,4 @@
-use Rattle.std.proofs.Common.{◌∙◌, sym, subst, arith, refl}
-use Rattle.std.proofs.lemmas.Option.{slice_get-get_or}
-use Rattle.level_work.specs.Private.Shares.{ArePaths}
-use Rattle.level_work.specs.declared.lots.Lot.{Lot}
+use Rattle.level_work.proofs.Prelude.{◌∙◌, sym, subst, arith, refl, slice_get-get_or, ArePaths, Lot}
 use Rattle.level_work.proofs.Working.{same_some}
 use Rattle.level_work.proofs.Leases.{begin, share, can_be_leased, have_parents, leased_more, all_under, all_ready}
 use Rattle.level_work.proofs.leasing.lease_all.Goals as goal

@@ -1,6 +1,4 @@
-use Rattle.std.proofs.Common.{◌≡◌}
-use Rattle.level_work.specs.Private.Lots.{part_tree, part_area, part_count}
-use Rattle.level_work.specs.Private.Leasing.{Leasing}
+use Rattle.level_work.proofs.Prelude.{◌≡◌, part_tree, part_area, part_count, Leasing}
 use Rattle.level_work.proofs.leasing.lease_all.Given as goal
 
 abbrev pub invariant-loop-i : goal.invariant-loop-i

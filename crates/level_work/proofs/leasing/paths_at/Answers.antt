@@ -1,5 +1,4 @@
-use Rattle.std.proofs.Common.{subst, sym, arith, ◌+◌}
-use Rattle.level_work.specs.Private.Shares.{AreFirstPaths}
+use Rattle.level_work.proofs.Prelude.{subst, sym, arith, ◌+◌, AreFirstPaths}
 use Rattle.level_work.proofs.Lent.{no_path_yet, one_path_more, all_paths}
 use Rattle.level_work.proofs.leasing.paths_at.Goals as goal
 

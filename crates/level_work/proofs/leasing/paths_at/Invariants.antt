@@ -1,4 +1,4 @@
-use Rattle.level_work.specs.Private.Shares.{AreFirstPaths}
+use Rattle.level_work.proofs.Prelude.{AreFirstPaths}
 use Rattle.level_work.proofs.leasing.paths_at.Given as goal
 
 abbrev pub invariant-loop-j : goal.invariant-loop-j

@@ -1,9 +1,5 @@
-use Rattle.std.proofs.Common.{◌≡◌, ℕ, map, Some, IfSome, sym, subst, arith, slice_get}
-use Rattle.level_work.specs.Fates.{EachMayCome}
-use Rattle.level_work.specs.Levels.{Acted, ParentsFail}
-use Rattle.level_work.specs.declared.items.Fate.{Fate}
+use Rattle.level_work.proofs.Prelude.{◌≡◌, ℕ, map, Some, IfSome, sym, subst, arith, slice_get, EachMayCome, Acted, ParentsFail, Fate, Lot}
 use Rattle.level_work.specs.declared.items.Fate.TheVariants as fate
-use Rattle.level_work.specs.declared.lots.Lot.{Lot}
 use Rattle.level_work.proofs.Hands.{written_back}
 use Rattle.level_work.proofs.levels.all_levels.Goals as goal
 

@@ -1,5 +1,4 @@
-use Rattle.std.proofs.Common.{◌≡◌, ℕ, Some, length, slice_get}
-use Rattle.level_work.specs.declared.items.Fate.{Fate}
+use Rattle.level_work.proofs.Prelude.{◌≡◌, ℕ, Some, length, slice_get, Fate}
 use Rattle.level_work.specs.declared.items.Fate.TheVariants as fate
 use Rattle.level_work.proofs.levels.no_fates.Given as goal
 

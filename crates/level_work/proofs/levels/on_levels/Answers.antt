@@ -1,11 +1,5 @@
-use Rattle.std.proofs.Common.{◌≡◌, ℕ, Vec, Global, length, map, ap, ◌∙◌, sym, subst, arith}
-use Rattle.std.specs.Prelude.{IfOk}
-use Rattle.std.specs.List.{count_by}
-use Rattle.level_work.specs.Acts.{Alike, AllShow}
-use Rattle.level_work.specs.Counts.{BlamedAll, NoneFell, is_failed}
-use Rattle.level_work.specs.Fates.{EachMayCome}
-use Rattle.level_work.specs.Private.Dealing.{AreByLevel}
-use Rattle.level_work.specs.declared.lots.Lot.{Lot}
+use Rattle.level_work.proofs.Prelude.{◌≡◌, ℕ, Vec, Global, length, map, ap, ◌∙◌, sym, subst, arith, IfOk, count_by, Alike, AllShow, BlamedAll, NoneFell}
+use Rattle.level_work.proofs.Prelude.{is_failed, EachMayCome, AreByLevel, Lot}
 use Rattle.level_work.proofs.Hands.{if_ok, written_back}
 use Rattle.level_work.proofs.Turning.{of_actors, of_hired, same_length, none_fell, all_blamed}
 use Rattle.level_work.proofs.levels.on_levels.Given as given

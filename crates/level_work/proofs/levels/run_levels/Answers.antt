@@ -1,9 +1,4 @@
-use Rattle.std.proofs.Common.{ap, ◌∙◌, ◌<◌, refl, sym, subst, arith, length, map, Some, IfSome}
-use Rattle.std.proofs.lemmas.Option.{slice_get-get_or}
-use Rattle.level_work.specs.Private.Coming.{LevelCame}
-use Rattle.level_work.specs.Private.Steps.{CanStep}
-use Rattle.level_work.specs.Private.Dealing.{AreOnLevel}
-use Rattle.level_work.specs.declared.lots.Lot.{Lot}
+use Rattle.level_work.proofs.Prelude.{ap, ◌∙◌, ◌<◌, refl, sym, subst, arith, length, map, Some, IfSome, slice_get-get_or, LevelCame, CanStep, AreOnLevel, Lot}
 use Rattle.level_work.proofs.Coming.{none_level_came, one_level_came, all_levels_came}
 use Rattle.level_work.proofs.Crewed.{map_get}
 use Rattle.level_work.proofs.Deals.{level_below}

@@ -1,8 +1,4 @@
-use Rattle.std.proofs.Common.{◌≡◌, length, map}
-use Rattle.level_work.specs.Chain.{mark_at}
-use Rattle.level_work.specs.Private.Coming.{CameSofar}
-use Rattle.level_work.specs.Private.Turns.{Turned}
-use Rattle.level_work.specs.declared.lots.Lot.{Lot}
+use Rattle.level_work.proofs.Prelude.{◌≡◌, length, map, mark_at, CameSofar, Turned, Lot}
 use Rattle.level_work.proofs.levels.run_levels.Given as goal
 
 abbrev pub invariant-loop-turn : goal.invariant-loop-turn

@@ -1,5 +1,4 @@
-use Rattle.std.proofs.Common.{arith}
-use Rattle.std.proofs.lemmas.Option.{slice_get-get_or}
+use Rattle.level_work.proofs.Prelude.{arith, slice_get-get_or}
 use Rattle.level_work.proofs.Stores.{none_left_out, left_out_more}
 use Rattle.level_work.proofs.storing.leave_out.Goals as goal
 

@@ -1,4 +1,4 @@
-use Rattle.level_work.specs.Private.Storing.{IsLeftOut}
+use Rattle.level_work.proofs.Prelude.{IsLeftOut}
 use Rattle.level_work.proofs.storing.leave_out.Given as goal
 
 abbrev pub invariant-loop-j : goal.invariant-loop-j

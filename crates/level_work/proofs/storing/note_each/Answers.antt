@@ -1,6 +1,4 @@
-use Rattle.std.proofs.Common.{◌+◌, ap, sym, subst, arith}
-use Rattle.std.proofs.lemmas.Option.{slice_get-get_or}
-use Rattle.level_work.specs.Private.Storing.{IsNoted}
+use Rattle.level_work.proofs.Prelude.{◌+◌, ap, sym, subst, arith, slice_get-get_or, IsNoted}
 use Rattle.level_work.proofs.Stores.{none_noted, noted_skip, noted_more}
 use Rattle.level_work.proofs.storing.note_each.Goals as goal
 use Rattle.level_work.proofs.storing.note_each.Goals.{then-not-is_done+in_ok-add, else-not-is_done}

@@ -1,4 +1,4 @@
-use Rattle.level_work.specs.Private.Storing.{IsNoted}
+use Rattle.level_work.proofs.Prelude.{IsNoted}
 use Rattle.level_work.proofs.storing.note_each.Given as goal
 
 abbrev pub invariant-loop-t : goal.invariant-loop-t

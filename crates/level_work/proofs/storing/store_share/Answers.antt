@@ -1,5 +1,4 @@
-use Rattle.std.proofs.Common.{ap, ◌∙◌, sym, arith, Some}
-use Rattle.std.proofs.lemmas.Option.{slice_get-get_or}
+use Rattle.level_work.proofs.Prelude.{ap, ◌∙◌, sym, arith, Some, slice_get-get_or}
 use Rattle.level_work.proofs.Stores.{none_stored, stored_more}
 use Rattle.level_work.proofs.storing.store_share.Goals as goal
 

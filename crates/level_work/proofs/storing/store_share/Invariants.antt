@@ -1,4 +1,4 @@
-use Rattle.level_work.specs.Private.Storing.{IsStored}
+use Rattle.level_work.proofs.Prelude.{IsStored}
 use Rattle.level_work.proofs.storing.store_share.Given as goal
 
 abbrev pub invariant-loop-j : goal.invariant-loop-j

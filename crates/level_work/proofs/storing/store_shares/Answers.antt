@@ -1,5 +1,4 @@
-use Rattle.std.proofs.Common.{ap, ◌∙◌, sym, arith, Some}
-use Rattle.std.proofs.lemmas.Option.{slice_get-get_or}
+use Rattle.level_work.proofs.Prelude.{ap, ◌∙◌, sym, arith, Some, slice_get-get_or}
 use Rattle.level_work.proofs.Stores.{no_share_stored, share_stored}
 use Rattle.level_work.proofs.storing.store_shares.Goals as goal
 

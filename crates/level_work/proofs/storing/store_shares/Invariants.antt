@@ -1,4 +1,4 @@
-use Rattle.level_work.specs.Private.Storing.{AreStored}
+use Rattle.level_work.proofs.Prelude.{AreStored}
 use Rattle.level_work.proofs.storing.store_shares.Given as goal
 
 abbrev pub invariant-loop-i : goal.invariant-loop-i

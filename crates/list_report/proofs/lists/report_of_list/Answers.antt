@@ -1,7 +1,4 @@
-use Rattle.std.proofs.Common.{rules, subst}
-use Rattle.run_report.specs.Sides.{side_of}
-use Rattle.run_entries.specs.Saving.{Saved, output_of}
-use Rattle.list_report.specs.Lists.{list_asked}
+use Rattle.list_report.proofs.Prelude.{rules, subst, side_of, Saved, output_of, list_asked}
 use Rattle.list_report.proofs.Steps.{finds_before, stops_finding, stops_saving}
 use Rattle.list_report.proofs.lists.report_of_list.Goals as goal
 

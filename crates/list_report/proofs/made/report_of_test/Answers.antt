@@ -1,7 +1,4 @@
-use Rattle.std.proofs.Common.{rules, Some}
-use Rattle.tool_words.specs.Asked.{roots, choice_in}
-use Rattle.run_entries.specs.Entries.{Finds}
-use Rattle.run_entries.specs.Stopping.{StopsFinding}
+use Rattle.list_report.proofs.Prelude.{rules, Some, roots, choice_in, Finds, StopsFinding}
 use Rattle.list_report.proofs.Steps.{over_made}
 use Rattle.list_report.proofs.Succeeds.{made_stops}
 use Rattle.list_report.proofs.made.report_of_test.Goals as goal

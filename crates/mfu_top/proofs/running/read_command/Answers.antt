@@ -1,5 +1,4 @@
-use Rattle.std.proofs.Common.{map}
-use Rattle.std.specs.String.{string_bytes}
+use Rattle.mfu_top.proofs.Prelude.{map, string_bytes}
 use Rattle.mfu_top.proofs.Ended.{within}
 use Rattle.mfu_top.proofs.running.read_command.Goals as goal
 

@@ -1,9 +1,4 @@
-use Rattle.std.specs.String.{string_bytes}
-use Rattle.run_report.specs.Sides.{side_of, stream_of}
-use Rattle.std.proofs.Common.{◌≡◌, refl, map, true}
-use Rattle.tool_words.specs.Refusals.{refusal_in}
-use Rattle.tool_words.specs.Words.{reading}
-use Rattle.mfu_top.specs.Run.{Leaves, is_apart}
+use Rattle.mfu_top.proofs.Prelude.{string_bytes, side_of, stream_of, ◌≡◌, refl, map, true, refusal_in, reading, Leaves, is_apart}
 use Rattle.mfu_top.proofs.Ended.{printed, stopped, refused, in_any}
 use Rattle.mfu_top.proofs.Still.{still}
 use Rattle.mfu_top.proofs.running.run.Goals as goal

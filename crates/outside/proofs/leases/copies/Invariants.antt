@@ -1,4 +1,4 @@
-use Rattle.std.proofs.Common.{◌≡◌, take}
+use Rattle.outside.proofs.Prelude.{◌≡◌, take}
 use Rattle.outside.proofs.leases.copies.Given as goal
 
 abbrev pub invariant-loop-path : goal.invariant-loop-path

@@ -1,5 +1,4 @@
-use Rattle.std.proofs.Common.{ap, sym, ◌∙◌, arith}
-use Rattle.outside.specs.Lease.{same_tops}
+use Rattle.outside.proofs.Prelude.{ap, sym, ◌∙◌, arith, same_tops}
 use Rattle.outside.proofs.Places.{first_place, some_place, more_before}
 use Rattle.outside.proofs.leases.place_of.Goals as goal
 

@@ -1,4 +1,4 @@
-use Rattle.std.proofs.Common.{arith}
+use Rattle.outside.proofs.Prelude.{arith}
 use Rattle.outside.proofs.AllPaths.{one_more, all_valid}
 use Rattle.outside.proofs.leases.tell.Goals as goal
 

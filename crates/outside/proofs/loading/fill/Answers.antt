@@ -1,4 +1,4 @@
-use Rattle.std.proofs.Common.{◌∙◌, arith}
+use Rattle.outside.proofs.Prelude.{◌∙◌, arith}
 use Rattle.outside.proofs.Read.{read_more}
 use Rattle.outside.proofs.Told.{read_on}
 use Rattle.outside.proofs.loading.fill.Goals as goal

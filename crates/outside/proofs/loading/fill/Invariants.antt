@@ -1,8 +1,4 @@
-use Rattle.std.proofs.Common.{◌≡◌, ◌-◌, ◌≤◌, length, take, IfSome}
-use Rattle.std.specs.FinMap.{get}
-use Rattle.outside.specs.Count.{RoseBy}
-use Rattle.outside.specs.Tree.{content}
-use Rattle.outside.specs.Answered.{ReadFront}
+use Rattle.outside.proofs.Prelude.{◌≡◌, ◌-◌, ◌≤◌, length, take, IfSome, get, RoseBy, content, ReadFront}
 use Rattle.outside.proofs.loading.fill.Given as goal
 
 abbrev pub invariant-loop-at : goal.invariant-loop-at

@@ -1,4 +1,4 @@
-use Rattle.std.proofs.Common.{◌∙◌, sym}
+use Rattle.outside.proofs.Prelude.{◌∙◌, sym}
 use Rattle.outside.proofs.Told.{over_stops, place_stops}
 use Rattle.outside.proofs.saving.look.Goals as goal
 

@@ -1,4 +1,4 @@
-use Rattle.std.proofs.Common.{◌∙◌, ap, take, drop, arith}
+use Rattle.outside.proofs.Prelude.{◌∙◌, ap, take, drop, arith}
 use Rattle.outside.proofs.Saved.{wrote_more}
 use Rattle.outside.proofs.Told.{wrote_on}
 use Rattle.outside.proofs.saving.write_all.Goals as goal

@@ -1,9 +1,4 @@
-use Rattle.std.proofs.Common.{◌≡◌, ◌-◌, ◌≤◌, length, take, Some, IfSome}
-use Rattle.std.specs.Option.{is_some}
-use Rattle.outside.specs.Count.{RoseBy}
-use Rattle.outside.specs.Writes.{new_file}
-use Rattle.outside.specs.Whole.{Holds}
-use Rattle.outside.specs.Answered.{WroteFront}
+use Rattle.outside.proofs.Prelude.{◌≡◌, ◌-◌, ◌≤◌, length, take, Some, IfSome, is_some, RoseBy, new_file, Holds, WroteFront}
 use Rattle.outside.proofs.saving.write_all.Given as goal
 
 abbrev pub invariant-loop-at : goal.invariant-loop-at

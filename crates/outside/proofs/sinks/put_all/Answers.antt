@@ -1,4 +1,4 @@
-use Rattle.std.proofs.Common.{◌∙◌, arith}
+use Rattle.outside.proofs.Prelude.{◌∙◌, arith}
 use Rattle.outside.proofs.Sent.{sent_more}
 use Rattle.outside.proofs.sinks.put_all.Goals as goal
 

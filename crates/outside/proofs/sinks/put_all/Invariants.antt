@@ -1,6 +1,4 @@
-use Rattle.std.proofs.Common.{◌≡◌, ◌≤◌, ◌++◌, ◌-◌, length, take, IfSome, Some}
-use Rattle.std.specs.Option.{is_some}
-use Rattle.outside.specs.Count.{RoseBy}
+use Rattle.outside.proofs.Prelude.{◌≡◌, ◌≤◌, ◌++◌, ◌-◌, length, take, IfSome, Some, is_some, RoseBy}
 use Rattle.outside.proofs.sinks.put_all.Given as goal
 
 abbrev pub invariant-loop-at : goal.invariant-loop-at

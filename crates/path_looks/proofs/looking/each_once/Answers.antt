@@ -1,6 +1,4 @@
-use Rattle.std.proofs.Common.{eqb}
-use Rattle.std.specs.Cmp.Lexicographic.{pointwise}
-use Rattle.std.proofs.lemmas.List.Filters.{dedup_is}
+use Rattle.path_looks.proofs.Prelude.{eqb, pointwise, dedup_is}
 use Rattle.path_looks.proofs.EachOnce.{once, every, none_else}
 use Rattle.path_looks.proofs.looking.each_once.Goals as goal
 

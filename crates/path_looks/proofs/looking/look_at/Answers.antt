@@ -1,6 +1,4 @@
-use Rattle.std.proofs.Common.{subst, sym}
-use Rattle.outside.specs.Count.{RoseBy}
-use Rattle.path_looks.specs.Looks.{IsSeen, faults_in}
+use Rattle.path_looks.proofs.Prelude.{subst, sym, RoseBy, IsSeen, faults_in}
 use Rattle.path_looks.proofs.Told.{seen_as_told, counted_as_seen}
 use Rattle.path_looks.proofs.looking.look_at.Goals as goal
 

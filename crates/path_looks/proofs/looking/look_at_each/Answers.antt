@@ -1,9 +1,4 @@
-use Rattle.std.proofs.Common.{◌<◌, ◌^◌, ◌≡◌, arith}
-use Rattle.std.specs.List.{All, sum_by}
-use Rattle.std.proofs.lemmas.Bool.Decides.{nat_tests}
-use Rattle.std.proofs.lemmas.List.{nil_from_length}
-use Rattle.outside.specs.Count.{RoseBy}
-use Rattle.path_looks.specs.Looks.{paths_of, fault_of, IsSeen, AreLooks}
+use Rattle.path_looks.proofs.Prelude.{◌<◌, ◌^◌, ◌≡◌, arith, All, sum_by, nat_tests, nil_from_length, RoseBy, paths_of, fault_of, IsSeen, AreLooks}
 use Rattle.path_looks.proofs.Told.{are_looks, no_looks, if_ok_all}
 use Rattle.path_looks.proofs.looking.look_at_each.Goals as goal
 

@@ -1,7 +1,5 @@
-use Rattle.std.proofs.Common.{◌≡◌, sum_by}
-use Rattle.std.specs.List.{All}
-use Rattle.outside.specs.Count.{RoseBy}
-use Rattle.path_looks.specs.Looks.{paths_of, fault_of, IsSeen}
+use Rattle.path_looks.proofs.Prelude.{◌≡◌, All, RoseBy, paths_of, fault_of, IsSeen}
+use Rattle.std.proofs.Common.{sum_by}
 use Rattle.path_looks.proofs.looking.looks_by.Given as goal
 
 -- the looks at the paths that were passed

@@ -1,5 +1,4 @@
-use Rattle.std.proofs.Common.{◌≡◌, ◌≤◌, ◌++◌, length, take}
-use Rattle.path_text.specs.Escape.{escape}
+use Rattle.path_text.proofs.Prelude.{◌≡◌, ◌≤◌, ◌++◌, length, take, escape}
 use Rattle.path_text.proofs.escaping.append_escaped.Given as goal
 
 -- what was put and what is left

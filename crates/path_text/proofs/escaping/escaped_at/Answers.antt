@@ -1,6 +1,4 @@
-use Rattle.std.proofs.Common.{◌∙◌, ap, sym}
-use Rattle.std.specs.List.{position}
-use Rattle.path_text.specs.Escape.{is_escaped}
+use Rattle.path_text.proofs.Prelude.{◌∙◌, ap, sym, position, is_escaped}
 use Rattle.path_text.proofs.Words.{rest_of}
 use Rattle.path_text.proofs.Blocks.{behind_Some, behind_None}
 use Rattle.path_text.proofs.escaping.escaped_at.Goals as goal

@@ -1,6 +1,4 @@
-use Rattle.std.proofs.Common.{◌≡◌, ◌+◌, ◌-◌, arith, ap, ◌∙◌, sym, take, drop}
-use Rattle.std.specs.List.{list_any}
-use Rattle.path_text.specs.Escape.{is_escaped}
+use Rattle.path_text.proofs.Prelude.{◌≡◌, ◌+◌, ◌-◌, arith, ap, ◌∙◌, sym, take, drop, list_any, is_escaped}
 use Rattle.path_text.proofs.Blocks.{next_block}
 use Rattle.path_text.proofs.escaping.plain_blocks.Goals as goal
 

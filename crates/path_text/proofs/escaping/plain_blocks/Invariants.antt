@@ -1,6 +1,4 @@
-use Rattle.std.proofs.Common.{◌≤◌, ◌-◌, length}
-use Rattle.std.specs.List.{position_or_len}
-use Rattle.path_text.specs.Escape.{is_escaped}
+use Rattle.path_text.proofs.Prelude.{◌≤◌, ◌-◌, length, position_or_len, is_escaped}
 use Rattle.path_text.proofs.escaping.plain_blocks.Given as goal
 
 abbrev pub invariant-loop-at : goal.invariant-loop-at

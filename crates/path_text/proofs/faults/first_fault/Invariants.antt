@@ -1,6 +1,4 @@
-use Rattle.std.proofs.Common.{◌≡◌, ◌≤◌, length}
-use Rattle.std.specs.List.{slice_split}
-use Rattle.path_text.specs.Path.{first_fault, is_slash}
+use Rattle.path_text.proofs.Prelude.{◌≡◌, ◌≤◌, length, slice_split, first_fault, is_slash}
 use Rattle.path_text.proofs.faults.first_fault.Given as goal
 
 -- the names so far have no fault

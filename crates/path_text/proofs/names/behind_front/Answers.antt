@@ -1,5 +1,4 @@
-use Rattle.std.proofs.Common.{arith}
-use Rattle.std.proofs.lemmas.Str.Pattern.{strip_prefix_char}
+use Rattle.path_text.proofs.Prelude.{arith, strip_prefix_char}
 use Rattle.path_text.proofs.Parts.{by_slash}
 use Rattle.path_text.proofs.names.behind_front.Goals as goal
 

@@ -1,4 +1,4 @@
-use Rattle.std.proofs.Common.{◌∙◌}
+use Rattle.path_text.proofs.Prelude.{◌∙◌}
 use Rattle.path_text.proofs.Words.{past_words}
 use Rattle.path_text.proofs.ordering.compare.Goals as goal
 

@@ -1,4 +1,4 @@
-use Rattle.std.proofs.Common.{◌∙◌, sym, arith}
+use Rattle.path_text.proofs.Prelude.{◌∙◌, sym, arith}
 use Rattle.path_text.proofs.Compared.{path_cmp_past}
 use Rattle.path_text.proofs.ordering.compare_bytes.Goals as goal
 

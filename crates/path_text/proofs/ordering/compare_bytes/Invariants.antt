@@ -1,5 +1,4 @@
-use Rattle.std.proofs.Common.{◌≡◌, drop}
-use Rattle.path_text.specs.Order.{path_cmp}
+use Rattle.path_text.proofs.Prelude.{◌≡◌, drop, path_cmp}
 use Rattle.path_text.proofs.ordering.compare_bytes.Given as goal
 
 -- the bytes so far are the same

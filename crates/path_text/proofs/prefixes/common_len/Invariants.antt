@@ -1,6 +1,4 @@
-use Rattle.std.proofs.Common.{◌≡◌, ◌+◌, drop}
-use Rattle.std.specs.Prelude.{nat_eq}
-use Rattle.std.specs.List.{common_prefix_len}
+use Rattle.path_text.proofs.Prelude.{◌≡◌, ◌+◌, drop, nat_eq, common_prefix_len}
 use Rattle.path_text.proofs.prefixes.common_len.Given as goal
 
 abbrev pub invariant-loop-i : goal.invariant-loop-i

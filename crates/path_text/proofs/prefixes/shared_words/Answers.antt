@@ -1,4 +1,4 @@
-use Rattle.std.proofs.Common.{◌∙◌, sym, arith}
+use Rattle.path_text.proofs.Prelude.{◌∙◌, sym, arith}
 use Rattle.path_text.proofs.Words.{next_word}
 use Rattle.path_text.proofs.prefixes.shared_words.Goals as goal
 

@@ -1,4 +1,4 @@
-use Rattle.std.proofs.Common.{◌≡◌, ◌≤◌, ◌-◌, take, min, length}
+use Rattle.path_text.proofs.Prelude.{◌≡◌, ◌≤◌, ◌-◌, take, min, length}
 use Rattle.path_text.proofs.prefixes.shared_words.Given as goal
 
 -- the words so far are the same

@@ -1,5 +1,4 @@
-use Rattle.std.proofs.Common.{◌≡◌, ◌+◌, drop}
-use Rattle.path_text.specs.Escape.{good_len}
+use Rattle.path_text.proofs.Prelude.{◌≡◌, ◌+◌, drop, good_len}
 use Rattle.path_text.proofs.reading.good_len.Given as goal
 
 -- the bytes so far are good

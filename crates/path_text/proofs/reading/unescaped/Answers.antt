@@ -1,7 +1,4 @@
-use Rattle.std.proofs.Common.{◌∙◌, sym, ap, arith, Some, None, ◌++◌, ◌∷◌, [], length}
-use Rattle.std.specs.String.{string_bytes}
-use Rattle.std.proofs.lemmas.Str.Pattern.{split_parts}
-use Rattle.path_text.specs.Escape.{good_len}
+use Rattle.path_text.proofs.Prelude.{◌∙◌, sym, ap, arith, Some, None, ◌++◌, ◌∷◌, [], length, string_bytes, split_parts, good_len}
 use Rattle.path_text.proofs.Readable.{step, cut, read_on, none_past}
 use Rattle.path_text.proofs.reading.unescaped.Goals as goal
 

@@ -1,8 +1,4 @@
-use Rattle.std.proofs.Common.{◌≡◌, ◌++◌, length}
-use denote.Text.{Utf8}
-use denote.Shadow.{shadow}
-use Rattle.std.specs.String.{string_bytes}
-use Rattle.path_text.specs.Escape.{good_len, unescaped}
+use Rattle.path_text.proofs.Prelude.{◌≡◌, ◌++◌, length, Utf8, shadow, string_bytes, good_len, unescaped}
 use Rattle.path_text.proofs.reading.unescaped.Given as goal
 
 -- what was read, and what is left

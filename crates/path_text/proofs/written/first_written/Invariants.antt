@@ -1,7 +1,4 @@
-use Rattle.std.proofs.Common.{◌≡◌, ◌≤◌, length}
-use Rattle.std.specs.List.{slice_split}
-use Rattle.path_text.specs.Path.{is_slash}
-use Rattle.path_text.specs.Written.{first_written}
+use Rattle.path_text.proofs.Prelude.{◌≡◌, ◌≤◌, length, slice_split, is_slash, first_written}
 use Rattle.path_text.proofs.written.first_written.Given as goal
 
 -- the names so far have no fault

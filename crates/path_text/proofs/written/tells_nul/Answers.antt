@@ -1,5 +1,4 @@
-use Rattle.std.proofs.Common.{arith, ap, ◌∙◌, sym}
-use Rattle.path_text.specs.Written.{begins_nul}
+use Rattle.path_text.proofs.Prelude.{arith, ap, ◌∙◌, sym, begins_nul}
 use Rattle.path_text.proofs.Words.{rest_of}
 use Rattle.path_text.proofs.Told.{nul_behind}
 use Rattle.path_text.proofs.written.tells_nul.Goals as goal

@@ -1,5 +1,4 @@
-use Rattle.std.proofs.Common.{◌≡◌, drop}
-use Rattle.path_text.specs.Written.{tells_nul}
+use Rattle.path_text.proofs.Prelude.{◌≡◌, drop, tells_nul}
 use Rattle.path_text.proofs.written.tells_nul.Given as goal
 
 -- the byte 0 is not written before

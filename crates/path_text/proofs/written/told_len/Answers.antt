@@ -1,4 +1,4 @@
-use Rattle.std.proofs.Common.{arith}
+use Rattle.path_text.proofs.Prelude.{arith}
 use Rattle.path_text.proofs.Told.{told_length}
 use Rattle.path_text.proofs.written.told_len.Goals as goal
 

@@ -1,6 +1,4 @@
-use Rattle.std.proofs.Common.{arith, ◌≡◌, ◌<◌, ◌∙◌, length, ℕ, Bool, false}
-use Rattle.std.specs.Prelude.{◌==◌}
-use Rattle.std.proofs.lemmas.Bool.Decides.{nat_tests}
+use Rattle.path_text.proofs.Prelude.{arith, ◌≡◌, ◌<◌, ◌∙◌, length, ℕ, Bool, false, ◌==◌, nat_tests}
 use Rattle.path_text.proofs.Told.{refusal_told}
 use Rattle.path_text.proofs.written.told_refusal.Goals as goal
 

@@ -1,5 +1,4 @@
-use Rattle.std.proofs.Common.{◌<◌, arith}
-use Rattle.std.proofs.lemmas.Grind.{common_steps}
+use Rattle.post_board.proofs.Prelude.{◌<◌, arith, common_steps}
 use Rattle.post_board.proofs.board_batches.place_in.Goals as goal
 
 pub unreachable-requires : goal.unreachable-requires

@@ -1,4 +1,4 @@
-use Rattle.std.proofs.Common.{◌≢◌, ℕ, ◌<◌, get_or}
+use Rattle.post_board.proofs.Prelude.{◌≢◌, ℕ, ◌<◌, get_or}
 use Rattle.post_board.proofs.board_batches.place_in.Given as goal
 
 abbrev pub invariant-loop-i : goal.invariant-loop-i

@@ -1,4 +1,4 @@
-use Rattle.std.proofs.Common.{refl}
+use Rattle.post_board.proofs.Prelude.{refl}
 use Rattle.post_board.proofs.HaltSteps.{allows_set_halt, allows_load_halt, allows_stop, allows_load_stops, allows_withdraw}
 use Rattle.post_board.proofs.laws.late_steps_keep_the_rule.Goals as goal
 

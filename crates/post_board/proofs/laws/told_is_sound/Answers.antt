@@ -1,5 +1,4 @@
-use Rattle.std.proofs.Common.{refl}
-use Rattle.post_board.specs.Plain.{told_of, told_by}
+use Rattle.post_board.proofs.Prelude.{refl, told_of, told_by}
 use Rattle.post_board.proofs.LateDeeds.{sound_worded}
 use Rattle.post_board.proofs.laws.told_is_sound.Goals as goal
 

@@ -1,8 +1,6 @@
-use Rattle.std.proofs.Common.{◌∙◌, inr, subst, sym}
-use Rattle.range_copy.specs.PrivateShowing.{PlacedBy}
+use Rattle.range_copy.proofs.Prelude.{◌∙◌, inr, subst, sym, PlacedBy, by_read}
 use Rattle.range_copy.specs.declared.came.Came.TheVariants as came
 use Rattle.range_copy.proofs.Counted.{fresh_counted}
-use Rattle.tree_copy.specs.Causes.{by_read}
 use Rattle.range_copy.proofs.Outcomes.{outcome_done}
 use Rattle.range_copy.proofs.Showing.{not_made, unread}
 use Rattle.range_copy.proofs.copying.copied.Goals as goal

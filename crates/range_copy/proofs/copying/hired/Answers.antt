@@ -1,8 +1,5 @@
-use Rattle.std.proofs.Common.{arith, ap, sym, subst, ◌∙◌, ◌∷◌, [], ◌≡◌, None, length, length-append}
-use Rattle.range_copy.specs.PrivateFilling.{IsFresh}
-use Rattle.range_copy.specs.PrivateTurns.{AllSee, AreFresh, AreIdle}
-use Rattle.range_copy.specs.PrivateReading.{IsFreshBy}
-use Rattle.range_copy.specs.PrivateShowing.{AreFreshBy}
+use Rattle.range_copy.proofs.Prelude.{arith, ap, sym, subst, ◌∙◌, ◌∷◌, [], ◌≡◌, None, length, length-append, IsFresh, AllSee, AreFresh, AreIdle, IsFreshBy}
+use Rattle.range_copy.proofs.Prelude.{AreFreshBy}
 use Rattle.range_copy.proofs.Loaded.{all_push}
 use Rattle.range_copy.proofs.copying.hired.Goals as goal
 

@@ -1,6 +1,4 @@
-use Rattle.std.proofs.Common.{◌≡◌, ◌-◌, ◌≤◌, length}
-use Rattle.range_copy.specs.PrivateTurns.{AllSee, AreFresh, AreIdle}
-use Rattle.range_copy.specs.PrivateShowing.{AreFreshBy}
+use Rattle.range_copy.proofs.Prelude.{◌≡◌, ◌-◌, ◌≤◌, length, AllSee, AreFresh, AreIdle, AreFreshBy}
 use Rattle.range_copy.proofs.copying.hired.Given as goal
 
 -- the fillers so far

@@ -1,5 +1,4 @@
-use Rattle.std.proofs.Common.{◌≡◌, ◌+◌, ◌-◌, ◌^◌, ◌<◌, ◌≤◌, min}
-use Rattle.range_copy.specs.PrivateTurns.{reader_faults}
+use Rattle.range_copy.proofs.Prelude.{◌≡◌, ◌+◌, ◌-◌, ◌^◌, ◌<◌, ◌≤◌, min, reader_faults}
 use Rattle.range_copy.proofs.copying.take_back.Given as goal
 
 -- the counts that were added so far

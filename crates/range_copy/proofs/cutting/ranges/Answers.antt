@@ -1,4 +1,4 @@
-use Rattle.std.proofs.Common.{arith}
+use Rattle.range_copy.proofs.Prelude.{arith}
 use Rattle.range_copy.proofs.Multiples.{next_step, are_all, cut_few, cut_right, cut_whole}
 use Rattle.range_copy.proofs.cutting.ranges.Goals as goal
 

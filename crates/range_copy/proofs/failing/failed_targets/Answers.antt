@@ -1,8 +1,4 @@
-use Rattle.std.proofs.Common.{◌≡◌, subst, sym, take, true}
-use Rattle.std.specs.List.{list_any}
-use Rattle.path_text.specs.Order.{is_within}
-use Rattle.tree_copy.proofs.Ends.{all_at}
-use Rattle.range_copy.specs.PrivateLarge.{AreFailed}
+use Rattle.range_copy.proofs.Prelude.{◌≡◌, subst, sym, take, true, list_any, is_within, all_at, AreFailed}
 use Rattle.range_copy.proofs.Noted.{row_at}
 use Rattle.range_copy.proofs.failing.failed_targets.Goals as goal
 

@@ -1,5 +1,4 @@
-use Rattle.std.proofs.Common.{take}
-use Rattle.range_copy.specs.PrivateLarge.{AreFailed}
+use Rattle.range_copy.proofs.Prelude.{take, AreFailed}
 use Rattle.range_copy.proofs.failing.failed_targets.Given as goal
 
 -- the targets of the rows so far

@@ -1,4 +1,4 @@
-use Rattle.std.proofs.Common.{◌∙◌, sym}
+use Rattle.range_copy.proofs.Prelude.{◌∙◌, sym}
 use Rattle.range_copy.proofs.Noted.{noted_done, noted_more, on_ok}
 use Rattle.range_copy.proofs.failing.note.Goals as goal
 

@@ -1,9 +1,6 @@
-use Rattle.std.proofs.Common.{◌∙◌, ap, sym, Some}
-use Rattle.std.proofs.lemmas.Option.{slice_get-get_or}
-use Rattle.path_text.specs.Graft.{below_of, grafted}
+use Rattle.range_copy.proofs.Prelude.{◌∙◌, ap, sym, Some, slice_get-get_or, below_of, grafted, if_ok}
 use Rattle.range_copy.proofs.Noted.{first_fits, first_pair}
 use Rattle.range_copy.proofs.failing.target_of.Goals as goal
-use Rattle.level_work.proofs.Hands.{if_ok}
 
 pub returns-then-is_within-clause-told : goal.returns-then-is_within-clause-told
 returns-then-is_within-clause-told c =

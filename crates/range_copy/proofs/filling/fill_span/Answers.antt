@@ -1,8 +1,6 @@
-use Rattle.std.proofs.Common.{rules, inl, inr, Err, ◌≤◌, ◌+◌, ap, ◌∙◌, subst, arith, length, drop, IfSome}
-use Rattle.std.proofs.lemmas.List.{length-take-le, take-append-le}
-use Rattle.std.specs.Option.{option_map}
-use Rattle.outside.specs.Tree.{Reads}
-use Rattle.outside.specs.Writes.{spliced}
+use Rattle.range_copy.proofs.Prelude.{rules, inl, inr, ◌≤◌, ◌+◌, ap, ◌∙◌, subst, arith, length, drop, IfSome, length-take-le, take-append-le, option_map, Reads}
+use Rattle.range_copy.proofs.Prelude.{spliced}
+use Rattle.std.proofs.Common.{Err}
 use Rattle.range_copy.proofs.Counted.{rose_after}
 use Rattle.range_copy.proofs.Fills.{more, as_long}
 use Rattle.range_copy.proofs.filling.fill_span.Goals as goal

@@ -1,7 +1,4 @@
-use Rattle.std.proofs.Common.{◌≡◌, ◌⊎◌, ◌+◌, ◌-◌, ◌≤◌, length, IfSome, is_some}
-use Rattle.std.specs.FinMap.{get}
-use Rattle.outside.specs.Tree.{content}
-use Rattle.tree_copy.specs.Causes.{IsReadTo}
+use Rattle.range_copy.proofs.Prelude.{◌≡◌, ◌⊎◌, ◌+◌, ◌-◌, ◌≤◌, length, IfSome, is_some, get, content, IsReadTo}
 use Rattle.range_copy.proofs.Fills.{HasFront}
 use Rattle.range_copy.proofs.filling.fill_span.Given as goal
 

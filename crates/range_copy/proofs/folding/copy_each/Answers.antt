@@ -1,18 +1,6 @@
-use Rattle.std.proofs.Common.{◌≡◌, ◌∙◌, ◌+◌, ◌++◌, ◌∷◌, [], ap, arith, refl, subst, sym, take, true, IfSome, length-take}
-use Rattle.std.proofs.lemmas.List.{take_all, take_more}
-use Rattle.std.proofs.lemmas.Slice.Zip.{all_zipped_more}
-use Rattle.std.specs.List.{count_by, list_any}
-use Rattle.path_text.specs.Order.{is_within}
-use Rattle.outside.specs.Count.{RoseBy}
-use Rattle.outside.specs.Writes.{SameBut}
-use Rattle.entry_pages.specs.declared.entries.Entry.{Entry}
-use Rattle.level_work.specs.Counts.{is_failed}
-use Rattle.level_work.specs.declared.items.Fate.{Fate}
-use Rattle.tree_copy.specs.Copying.{IsCopied, IsEarly, target_of}
-use Rattle.tree_copy.proofs.Ends.{at_of}
-use Rattle.tree_copy.specs.Causes.{HasCause}
-use Rattle.range_copy.specs.PrivateLarge.{AreRows, IsRow, SameButFor, bytes_over}
-use Rattle.range_copy.specs.PrivateParts.{exceeds}
+use Rattle.range_copy.proofs.Prelude.{◌≡◌, ◌∙◌, ◌+◌, ◌++◌, ◌∷◌, [], ap, arith, refl, subst, sym, take, true, IfSome, length-take, take_all, take_more}
+use Rattle.range_copy.proofs.Prelude.{all_zipped_more, count_by, list_any, is_within, RoseBy, SameBut, Entry, is_failed, Fate, IsCopied, IsEarly, target_of}
+use Rattle.range_copy.proofs.Prelude.{at_of, HasCause, AreRows, IsRow, SameButFor, bytes_over, exceeds}
 use Rattle.range_copy.proofs.Folded.{Folded, Numbers, OneMore, folded_more, folded_none, make_at, next_apart, numbers_more, numbers_none, rest_more, rest_whole}
 use Rattle.range_copy.proofs.Folded.{place_of, rose_any, rose_more, rose_none, rose_two, still_makes}
 use Rattle.range_copy.proofs.folding.copy_each.Given as given

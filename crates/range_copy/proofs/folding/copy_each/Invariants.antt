@@ -1,10 +1,4 @@
-use Rattle.std.proofs.Common.{◌≡◌, take}
-use Rattle.std.specs.List.{count_by}
-use Rattle.outside.specs.Count.{RoseBy}
-use Rattle.outside.specs.Writes.{nothing_lent}
-use Rattle.level_work.specs.Counts.{is_failed}
-use Rattle.tree_copy.specs.Causes.{HasCause}
-use Rattle.range_copy.specs.PrivateLarge.{AreRows}
+use Rattle.range_copy.proofs.Prelude.{◌≡◌, take, count_by, RoseBy, nothing_lent, is_failed, HasCause, AreRows}
 use Rattle.range_copy.proofs.Folded.{Folded, Numbers}
 use Rattle.range_copy.proofs.folding.copy_each.Given as goal
 

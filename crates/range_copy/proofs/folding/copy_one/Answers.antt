@@ -1,12 +1,6 @@
-use Rattle.std.proofs.Common.{◌≡◌, ◌∙◌, ◌<◌, cond, inl, refl, subst, sym, IfSome, None}
-use Rattle.std.proofs.lemmas.Bool.{false≢true}
-use Rattle.path_text.specs.Path.{refusal}
-use Rattle.outside.specs.Count.{RoseBy}
-use Rattle.outside.specs.Writes.{SameBut}
-use Rattle.level_work.specs.Counts.{is_failed}
+use Rattle.range_copy.proofs.Prelude.{◌≡◌, ◌∙◌, ◌<◌, cond, inl, refl, subst, sym, IfSome, None, false≢true, refusal, RoseBy, SameBut, is_failed, HasCause}
+use Rattle.range_copy.proofs.Prelude.{IsCopied, IsEarly, target_of}
 use Rattle.level_work.specs.declared.items.Fate.TheVariants as fate
-use Rattle.tree_copy.specs.Causes.{HasCause}
-use Rattle.tree_copy.specs.Copying.{IsCopied, IsEarly, target_of}
 use Rattle.range_copy.proofs.Showing.{cause_there}
 use Rattle.range_copy.proofs.Tried.{cause_of, copied_there, early_long, exceeds_by, long_copied}
 use Rattle.range_copy.proofs.Tried.{lost_copied, lost_there, no_root_there, none_there, parent_there}

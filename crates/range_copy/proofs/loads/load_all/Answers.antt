@@ -1,6 +1,4 @@
-use Rattle.std.proofs.Common.{◌≡◌, ◌+◌, slice_get, arith, ◌∷◌, ◌++◌, [], ap, sym, subst, ◌∙◌, length}
-use Rattle.range_copy.specs.PrivateFilling.{AreLoads, IsLoad, spans_left}
-use Rattle.range_copy.specs.Ranges.{end_of}
+use Rattle.range_copy.proofs.Prelude.{◌≡◌, ◌+◌, slice_get, arith, ◌∷◌, ◌++◌, [], ap, sym, subst, ◌∙◌, length, AreLoads, IsLoad, spans_left, end_of}
 use Rattle.range_copy.proofs.Loaded.{all_push, is_load, left_push}
 use Rattle.range_copy.proofs.loads.load_all.Goals as goal
 

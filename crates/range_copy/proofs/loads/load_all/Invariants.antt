@@ -1,8 +1,4 @@
-use Rattle.std.proofs.Common.{◌≡◌, ◌+◌, ◌≤◌, ◌++◌, ℕ, List, map, vec_len}
-use Rattle.std.specs.Vec.{vec_capacity}
-use Rattle.outside.specs.Spans.{pieces}
-use Rattle.range_copy.specs.PrivateFilling.{AreLoads, spans_left}
-use Rattle.range_copy.specs.Ranges.{end_of}
+use Rattle.range_copy.proofs.Prelude.{◌≡◌, ◌+◌, ◌≤◌, ◌++◌, ℕ, List, map, vec_len, vec_capacity, pieces, AreLoads, spans_left, end_of}
 use Rattle.range_copy.proofs.loads.load_all.Given as goal
 
 -- the spans so far, from the last one on

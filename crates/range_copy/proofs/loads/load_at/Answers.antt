@@ -1,5 +1,5 @@
-use Rattle.std.proofs.Common.{arith, ap, ◌+◌, ◌-◌, ◌≡◌, Some, ◌∙◌, slice_index_or}
-use Rattle.std.proofs.lemmas.Option.{slice_get-get_or}
+use Rattle.range_copy.proofs.Prelude.{arith, ap, ◌+◌, ◌-◌, ◌≡◌, Some, ◌∙◌, slice_get-get_or}
+use Rattle.std.proofs.Common.{slice_index_or}
 use Rattle.range_copy.proofs.Loaded.{side_by_side}
 use Rattle.range_copy.proofs.loads.load_at.Goals as goal
 

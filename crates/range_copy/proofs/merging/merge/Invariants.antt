@@ -1,6 +1,4 @@
-use Rattle.std.proofs.Common.{◌≡◌, ◌++◌, drop}
-use Rattle.std.specs.Vec.Iter.{into_iter_items}
-use Rattle.range_copy.specs.PrivateParts.{merged}
+use Rattle.range_copy.proofs.Prelude.{◌≡◌, ◌++◌, drop, into_iter_items, merged}
 use Rattle.range_copy.proofs.merging.merge.Given as goal
 
 -- the rows so far, with those of the marks that are left

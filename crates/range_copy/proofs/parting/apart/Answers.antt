@@ -1,11 +1,6 @@
-use Rattle.std.proofs.Common.{◌≡◌, ◌∙◌, ◌-◌, ◌++◌, ◌∷◌, [], ap, arith, drop, length, None, subst, sym, take, All}
-use Rattle.std.proofs.lemmas.List.{take_all}
-use Rattle.std.proofs.lemmas.List.Elements.{All-append, All-cons, All-nil}
-use Rattle.path_text.specs.Path.{refusal}
-use Rattle.entry_pages.specs.declared.entries.Entry.{Entry}
-use Rattle.flat_list.proofs.Turns.{no_more}
-use Rattle.tree_copy.proofs.Tallies.{moved_on, next_of}
-use Rattle.range_copy.specs.PrivateParts.{ArePartsOf, held_of, large_of, marks_of, small_of}
+use Rattle.range_copy.proofs.Prelude.{◌≡◌, ◌∙◌, ◌-◌, ◌++◌, ◌∷◌, [], ap, arith, drop, length, None, subst, sym, take, take_all, All-append, All-cons, All-nil}
+use Rattle.range_copy.proofs.Prelude.{refusal, Entry, no_more, moved_on, next_of, ArePartsOf, held_of, large_of, marks_of, small_of}
+use Rattle.std.proofs.Common.{All}
 use Rattle.range_copy.proofs.Passed.{at_last, none_over, whole}
 use Rattle.range_copy.proofs.parting.apart.Goals as goal
 use Rattle.range_copy.proofs.parting.apart.Goals.{In_ok-settle}

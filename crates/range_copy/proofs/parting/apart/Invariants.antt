@@ -1,7 +1,4 @@
-use Rattle.std.proofs.Common.{◌≡◌, ◌-◌, ◌≤◌, ◌++◌, true, None, IfSome, length, take, drop}
-use Rattle.std.specs.List.{All}
-use Rattle.path_text.specs.Path.{refusal}
-use Rattle.range_copy.specs.PrivateParts.{ArePartsOf, exceeds, held_of}
+use Rattle.range_copy.proofs.Prelude.{◌≡◌, ◌-◌, ◌≤◌, ◌++◌, true, None, IfSome, length, take, drop, All, refusal, ArePartsOf, exceeds, held_of}
 use Rattle.range_copy.proofs.parting.apart.Given as goal
 
 -- the parts of the entries that were passed, but for one that is held back

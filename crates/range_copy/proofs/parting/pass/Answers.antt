@@ -1,5 +1,4 @@
-use Rattle.std.proofs.Common.{◌∙◌, ◌∷◌, subst, sym}
-use Rattle.range_copy.specs.PrivateParts.{ArePartsOf}
+use Rattle.range_copy.proofs.Prelude.{◌∙◌, ◌∷◌, subst, sym, ArePartsOf}
 use Rattle.range_copy.proofs.Passed.{small_less}
 use Rattle.range_copy.proofs.parting.pass.Goals as goal
 

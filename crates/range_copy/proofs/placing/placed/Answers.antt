@@ -1,5 +1,4 @@
-use Rattle.std.proofs.Common.{subst}
-use Rattle.range_copy.specs.PrivateShowing.{MadeBy}
+use Rattle.range_copy.proofs.Prelude.{subst, MadeBy}
 use Rattle.range_copy.specs.declared.came.Came.TheVariants as came
 use Rattle.range_copy.proofs.Showing.{placed_made}
 use Rattle.range_copy.proofs.placing.placed.Goals as goal

@@ -1,7 +1,5 @@
-use Rattle.std.proofs.Common.{inl, subst}
+use Rattle.range_copy.proofs.Prelude.{inl, subst, LookMeans, fate_of}
 use Rattle.outside.specs.declared.trees.Kind.TheVariants as kind
-use Rattle.tree_copy.specs.Causes.{LookMeans}
-use Rattle.range_copy.specs.PrivateLarge.{fate_of}
 use Rattle.range_copy.proofs.Showing.{placed_replaced}
 use Rattle.range_copy.proofs.placing.placed_over.Goals as goal
 

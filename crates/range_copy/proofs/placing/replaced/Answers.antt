@@ -1,5 +1,4 @@
-use Rattle.std.proofs.Common.{◌∙◌, rules}
-use Rattle.tree_copy.proofs.Places.{removed_only}
+use Rattle.range_copy.proofs.Prelude.{◌∙◌, rules, removed_only}
 use Rattle.range_copy.proofs.Made.{replaced, stands_still}
 use Rattle.range_copy.proofs.Showing.{freed_cause, made_again, not_removed}
 use Rattle.range_copy.proofs.placing.replaced.Goals as goal

@@ -1,6 +1,4 @@
-use Rattle.std.proofs.Common.{arith, ap, length, subst}
-use Rattle.range_copy.specs.PrivateFilling.{AreLoads}
-use Rattle.range_copy.specs.PrivateTurns.{AreFilled}
+use Rattle.range_copy.proofs.Prelude.{arith, ap, length, subst, AreLoads, AreFilled}
 use Rattle.range_copy.proofs.Loaded.{pieces_many}
 use Rattle.range_copy.proofs.Worked.{many_left}
 use Rattle.range_copy.proofs.spanning.fill_spans.Goals as goal

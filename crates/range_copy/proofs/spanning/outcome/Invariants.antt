@@ -1,5 +1,4 @@
-use Rattle.std.proofs.Common.{◌≡◌, drop}
-use Rattle.range_copy.specs.PrivateTurns.{outcome_of}
+use Rattle.range_copy.proofs.Prelude.{◌≡◌, drop, outcome_of}
 use Rattle.range_copy.proofs.spanning.outcome.Given as goal
 
 -- those so far have come to `Done`

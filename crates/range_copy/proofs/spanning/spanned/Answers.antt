@@ -1,18 +1,10 @@
-use Rattle.std.proofs.Common.{◌≡◌, ap, refl, sym, subst, ◌∙◌, Some}
-use Rattle.std.specs.Prelude.{Err}
-use Rattle.std.specs.List.{sum_by}
-use Rattle.outside.specs.Parts.{IsTreeIn}
-use Rattle.range_copy.specs.PrivateTurns.{came_of, faults_of, reader_faults}
-use Rattle.std.specs.Option.{option_map}
-use Rattle.outside.specs.Spans.{area_cut, pieces}
-use Rattle.range_copy.specs.PrivateFilling.{IsShort}
-use Rattle.range_copy.specs.PrivateReading.{FilledBy}
+use Rattle.range_copy.proofs.Prelude.{◌≡◌, ap, refl, sym, subst, ◌∙◌, Some, Err, sum_by, IsTreeIn, came_of, faults_of, reader_faults, option_map, area_cut}
+use Rattle.range_copy.proofs.Prelude.{pieces, IsShort, FilledBy, by_count}
 use Rattle.std.specs.Prelude.{IfSome, ◌≤◌}
 use Rattle.range_copy.specs.declared.filled.Filled.TheVariants as filled
 use Rattle.range_copy.proofs.Counted.{back_counted, cause_told}
 use Rattle.range_copy.proofs.Ended.{as_came, empty_now, open_now}
 use Rattle.range_copy.proofs.Outcomes.{outcome_by, outcome_done}
-use Rattle.tree_copy.specs.Causes.{by_count}
 use Rattle.range_copy.proofs.Showing.{outcome_shown, read_cuts, rose_back, spans_shown, was_spanned}
 use Rattle.range_copy.proofs.Rejoined.{all_alike, came_told, has_bytes, is_out, is_whole, new_alike, others, still_alike}
 use Rattle.range_copy.proofs.spanning.spanned.Goals as goal

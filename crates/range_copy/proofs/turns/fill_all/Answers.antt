@@ -1,8 +1,6 @@
-use Rattle.std.proofs.Common.{◌≡◌, [], arith, ap, length, length-append}
-use Rattle.std.proofs.lemmas.List.Elements.{All-from_recursion}
-use Rattle.range_copy.specs.PrivateFilling.{HasCounted, HasWorked, IsReady, spans_left, spans_of}
+use Rattle.range_copy.proofs.Prelude.{◌≡◌, [], arith, ap, length, length-append, All-from_recursion, HasCounted, HasWorked, IsReady, spans_left, spans_of}
+use Rattle.range_copy.proofs.Prelude.{HasShown}
 use Rattle.range_copy.proofs.Counted.{blamed_ends, blamed_turns, blamed_works, none_blamed}
-use Rattle.range_copy.specs.PrivateShowing.{HasShown}
 use Rattle.range_copy.proofs.Showing.{none_shown, read_ends, read_starts, read_turns, read_works, shown_ends, shown_turns, shown_works}
 use Rattle.range_copy.proofs.Worked.{as_many, filling_ends, filling_starts, filling_turns, filling_works, many_left, none_out, paired, shrinks}
 use Rattle.range_copy.proofs.Worked.{worked_many}

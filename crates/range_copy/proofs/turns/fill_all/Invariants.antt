@@ -1,9 +1,4 @@
-use Rattle.std.proofs.Common.{◌+◌, ◌*◌, ◌<◌, ◌≤◌, ◌++◌, length}
-use Rattle.std.specs.List.{sum_by}
-use Rattle.std.specs.Vec.{vec_capacity}
-use Rattle.range_copy.specs.PrivateFilling.{spans_left, spans_of}
-use Rattle.range_copy.specs.PrivateTurns.{AreBlamed, faults_of}
-use Rattle.range_copy.specs.PrivateShowing.{AreFilledBy}
+use Rattle.range_copy.proofs.Prelude.{◌+◌, ◌*◌, ◌<◌, ◌≤◌, ◌++◌, length, sum_by, vec_capacity, spans_left, spans_of, AreBlamed, faults_of, AreFilledBy}
 use Rattle.range_copy.proofs.Showing.{SoFarRead}
 use Rattle.range_copy.proofs.Worked.{Filling}
 use Rattle.range_copy.proofs.turns.fill_all.Given as goal

@@ -1,8 +1,6 @@
-use Rattle.std.proofs.Common.{arith, ◌∙◌, get_or, refl}
-use Rattle.std.proofs.lemmas.Option.{slice_get-get_or}
+use Rattle.range_copy.proofs.Prelude.{arith, ◌∙◌, get_or, refl, slice_get-get_or, length_set}
 use Rattle.range_copy.proofs.Dealt.{room_for, turn_ends, turn_starts, turn_steps}
 use Rattle.range_copy.proofs.turns.turn.Goals as goal
-use Rattle.level_work.proofs.Giving.{length_set}
 
 pub loop-i-init : goal.loop-i-init
 loop-i-init g c = record {

@@ -1,5 +1,4 @@
-use Rattle.std.proofs.Common.{◌≡◌, ◌≤◌, length}
-use Rattle.std.specs.Vec.{vec_capacity}
+use Rattle.range_copy.proofs.Prelude.{◌≡◌, ◌≤◌, length, vec_capacity}
 use Rattle.range_copy.proofs.Dealt.{Turning}
 use Rattle.range_copy.proofs.turns.turn.Given as goal
 

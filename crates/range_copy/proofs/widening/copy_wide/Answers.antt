@@ -1,6 +1,4 @@
-use Rattle.std.proofs.Common.{◌∙◌, subst, IfSome}
-use Rattle.std.specs.Prelude.{IfOk}
-use Rattle.outside.specs.Parts.{IsTreeIn}
+use Rattle.range_copy.proofs.Prelude.{◌∙◌, subst, IfSome, IfOk, IsTreeIn, if_ok}
 use Rattle.range_copy.proofs.Caused.{caused}
 use Rattle.range_copy.proofs.Folded.{rose_two}
 use Rattle.range_copy.proofs.Reported.{Reported, all_reported, apart_second, can_first, exceed_second, fit_first, makes_second}
@@ -9,7 +7,6 @@ use Rattle.range_copy.proofs.Widened.{Given}
 use Rattle.range_copy.proofs.widening.copy_wide.Given as given
 use Rattle.range_copy.proofs.widening.copy_wide.Goals as goal
 use Rattle.range_copy.proofs.widening.copy_wide.Goals.{After-report_of, In_ok-parts}
-use Rattle.level_work.proofs.Hands.{if_ok}
 
 -- what is known of the list and its pairs once the list is in parts
 known : (g : given.Over) (c : In_ok-parts g) → Given c.args.list.now c.args.pairs.now

@@ -1,6 +1,4 @@
-use Rattle.std.proofs.Common.{take}
-use Rattle.std.specs.List.{All}
-use Rattle.tree_copy.specs.Placing.{IsPair}
+use Rattle.range_copy.proofs.Prelude.{take, All, IsPair}
 use Rattle.range_copy.proofs.widening.see_pairs.Given as goal
 
 -- the pairs that were seen

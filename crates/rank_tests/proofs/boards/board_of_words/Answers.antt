@@ -1,4 +1,4 @@
-use Rattle.post_board.specs.BoardSeats.{shown_by, IsSeat}
+use Rattle.rank_tests.proofs.Prelude.{shown_by, IsSeat}
 use Rattle.rank_tests.proofs.Pairs.{both_new}
 use Rattle.rank_tests.proofs.boards.board_of_words.Goals as goal
 

@@ -1,4 +1,5 @@
-use Rattle.post_board.specs.Plain.{shown_by, Seats}
+use Rattle.rank_tests.proofs.Prelude.{Seats}
+use Rattle.post_board.specs.Plain.{shown_by}
 use Rattle.rank_tests.proofs.Pairs.{both_new}
 use Rattle.rank_tests.proofs.boards.plain_board.Goals as goal
 

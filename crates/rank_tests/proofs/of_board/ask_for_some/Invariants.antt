@@ -1,6 +1,4 @@
-use Rattle.std.proofs.Common.{◌≡◌, true}
-use Rattle.post_board.specs.Shown.{Live, is_open}
-use Rattle.post_board.specs.BoardSeats.{IsSeat, shown_by}
+use Rattle.rank_tests.proofs.Prelude.{◌≡◌, true, Live, is_open, IsSeat, shown_by}
 use Rattle.rank_tests.proofs.of_board.ask_for_some.Given as goal
 
 abbrev pub invariant-loop : goal.invariant-loop

@@ -1,6 +1,4 @@
-use Rattle.std.proofs.Common.{◌≡◌, true}
-use Rattle.post_board.specs.Shown.{Live}
-use Rattle.post_board.specs.BoardSeats.{IsSeat, shown_by}
+use Rattle.rank_tests.proofs.Prelude.{◌≡◌, true, Live, IsSeat, shown_by}
 use Rattle.rank_tests.proofs.of_board.give_all.Given as goal
 
 abbrev pub invariant-loop : goal.invariant-loop

@@ -1,4 +1,4 @@
-use Rattle.std.proofs.Common.{◌≡◌, ◌-◌, ◌≤◌, [], length, All}
+use Rattle.rank_tests.proofs.Prelude.{◌≡◌, ◌-◌, ◌≤◌, [], length, All}
 use Rattle.rank_tests.proofs.of_circle_run.families.Given as goal
 
 abbrev pub invariant-loop-alloc : goal.invariant-loop-alloc

@@ -1,7 +1,4 @@
-use Rattle.std.proofs.Common.{◌≡◌, ◌⊎◌, ℕ, inl, true, false, sym, subst, ap, ◌∙◌, [], ◌∷◌, ◌++◌}
-use Rattle.std.proofs.lemmas.List.Sorted.{IsPermutation-append_comm}
-use Rattle.post_board.specs.Shown.{is_served}
-use Rattle.post_board.specs.Calls.{AllDone}
+use Rattle.rank_tests.proofs.Prelude.{◌≡◌, ◌⊎◌, ℕ, inl, true, false, sym, subst, ap, ◌∙◌, [], ◌∷◌, ◌++◌, IsPermutation-append_comm, is_served, AllDone}
 use Rattle.rank_tests.proofs.Pairs.{two_by}
 use Rattle.rank_tests.proofs.of_post_board.gather_both.Goals as goal
 

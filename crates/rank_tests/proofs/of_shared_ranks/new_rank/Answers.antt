@@ -1,7 +1,4 @@
-use Rattle.std.proofs.Common.{◌≡◌, true, false, ap, ◌∙◌}
-use Rattle.sum_tree.specs.Shown.{SumShown}
-use Rattle.circle_run.specs.declared.ranks.Rank.{Rank}
-use Rattle.circle_run.proofs.New.{ready_at_first}
+use Rattle.rank_tests.proofs.Prelude.{◌≡◌, true, false, ap, ◌∙◌, SumShown, Rank, ready_at_first}
 use Rattle.rank_tests.proofs.of_shared_ranks.new_rank.Goals as goal
 
 pub returns-clause-placed : goal.returns-clause-placed

@@ -1,6 +1,4 @@
-use Rattle.std.proofs.Common.{◌≡◌, ◌<◌, ◌∷◌, ◌++◌, ◌∙◌, ap, [], ℕ, zero, suc, sym, subst, arith, false, List, length, get_or}
-use Rattle.circle_run.specs.Hosts.{Placed}
-use Rattle.circle_run.specs.declared.ranks.Rank.{Rank}
+use Rattle.rank_tests.proofs.Prelude.{◌≡◌, ◌<◌, ◌∷◌, ◌++◌, ◌∙◌, ap, [], ℕ, zero, suc, sym, subst, arith, false, List, length, get_or, Placed, Rank}
 use Rattle.rank_tests.proofs.of_shared_ranks.run_both.Goals as goal
 
 -- what holds of two holds of each place of the list of them

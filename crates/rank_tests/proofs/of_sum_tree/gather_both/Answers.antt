@@ -1,6 +1,4 @@
-use Rattle.std.proofs.Common.{◌≡◌, sym, subst, ap, ◌∙◌, [], ◌∷◌, ◌++◌, IsSome}
-use Rattle.std.proofs.lemmas.List.Sorted.{IsPermutation-append_comm}
-use Rattle.sum_tree.specs.Shown.{AllFinished}
+use Rattle.rank_tests.proofs.Prelude.{◌≡◌, sym, subst, ap, ◌∙◌, [], ◌∷◌, ◌++◌, IsSome, IsPermutation-append_comm, AllFinished}
 use Rattle.rank_tests.proofs.Pairs.{two_by}
 use Rattle.rank_tests.proofs.of_sum_tree.gather_both.Goals as goal
 

@@ -1,5 +1,4 @@
-use Rattle.std.proofs.Common.{◌≡◌}
-use Rattle.sum_tree.specs.Plain.{fresh}
+use Rattle.rank_tests.proofs.Prelude.{◌≡◌, fresh}
 use Rattle.sum_tree.specs.TreeSeats.{shown_by, IsSeat}
 use Rattle.rank_tests.proofs.Pairs.{both_are}
 use Rattle.rank_tests.proofs.of_sum_tree.two_ranks_over_words_come_to_seven.Goals as goal

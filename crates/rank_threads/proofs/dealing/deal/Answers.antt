@@ -1,11 +1,6 @@
-use Rattle.std.proofs.Common.{◌≡◌, ◌-◌, ◌+◌, Some, All, sym, subst, ap, arith}
-use Rattle.std.proofs.lemmas.List.Elements.{All-push}
-use Rattle.post_board.specs.Fresh.{fresh}
-use Rattle.post_board.specs.BoardSeats.{IsSeat, shown_by, unused}
-use Rattle.sum_tree.specs.Shown.{SumShown}
+use Rattle.rank_threads.proofs.Prelude.{◌≡◌, ◌-◌, ◌+◌, Some, All, sym, subst, ap, arith, All-push, fresh, IsSeat, shown_by, unused, SumShown, Fits}
 use Rattle.sum_tree.specs.TreeSeats.{IsSeat as IsSumSeat, shown_by as sums_shown}
 use Rattle.sum_tree.specs.Plain.{fresh as fresh_sum}
-use Rattle.rank_threads.specs.Fits.{Fits}
 use Rattle.rank_threads.proofs.Firsts.{before, last_of}
 use Rattle.rank_threads.proofs.dealing.deal.Goals as goal
 

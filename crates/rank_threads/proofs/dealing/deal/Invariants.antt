@@ -1,9 +1,6 @@
-use Rattle.std.proofs.Common.{◌≡◌, ◌-◌, Some, All}
-use Rattle.post_board.specs.Fresh.{fresh}
-use Rattle.post_board.specs.BoardSeats.{IsSeat, shown_by, unused}
+use Rattle.rank_threads.proofs.Prelude.{◌≡◌, ◌-◌, Some, All, fresh, IsSeat, shown_by, unused, Fits}
 use Rattle.sum_tree.specs.TreeSeats.{IsSeat as IsSumSeat, shown_by as sums_shown}
 use Rattle.sum_tree.specs.Plain.{fresh as fresh_sum}
-use Rattle.rank_threads.specs.Fits.{Fits}
 use Rattle.rank_threads.proofs.Firsts.{Firsts}
 use Rattle.rank_threads.proofs.dealing.deal.Given as goal
 

@@ -1,5 +1,4 @@
-use Rattle.post_board.specs.BoardSeats.{IsSeat, shown_by}
-use Rattle.post_board.specs.Shown.{Live}
+use Rattle.rank_threads.proofs.Prelude.{IsSeat, shown_by, Live}
 use Rattle.rank_threads.proofs.looking.found_none.Given as goal
 
 abbrev pub invariant-loop : goal.invariant-loop

@@ -1,8 +1,4 @@
-use Rattle.std.proofs.Common.{◌≡◌, ◌-◌, ℕ, Some, ap, refl, arith}
-use Rattle.post_board.specs.Fresh.{fresh}
-use Rattle.post_board.specs.Shown.{Shown}
-use Rattle.post_board.specs.BoardSeats.{IsSeat, shown_by, unused}
-use Rattle.post_board.specs.declared.boards.BoardSeat.{BoardSeat}
+use Rattle.rank_threads.proofs.Prelude.{◌≡◌, ◌-◌, ℕ, Some, ap, refl, arith, fresh, Shown, IsSeat, shown_by, unused, BoardSeat}
 use Rattle.rank_threads.proofs.Firsts.{starts, last_of}
 use Rattle.rank_threads.proofs.looking.look.Goals as goal
 

@@ -1,4 +1,4 @@
-use Rattle.std.proofs.Common.{◌≡◌}
+use Rattle.rank_threads.proofs.Prelude.{◌≡◌}
 use Rattle.rank_threads.proofs.sprouts.put_children.Given as goal
 
 abbrev pub invariant-loop-side : goal.invariant-loop-side

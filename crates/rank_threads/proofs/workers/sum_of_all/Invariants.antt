@@ -1,4 +1,4 @@
-use Rattle.std.proofs.Common.{◌≡◌, None}
+use Rattle.rank_threads.proofs.Prelude.{◌≡◌, None}
 use Rattle.sum_tree.specs.TreeSeats.{IsSeat, shown_by}
 use Rattle.rank_threads.proofs.workers.sum_of_all.Given as goal
 

@@ -1,6 +1,4 @@
-use Rattle.std.proofs.Common.{map, false}
-use Rattle.circle_run.specs.Hosts.{Placed}
-use Rattle.post_board.specs.BoardSeats.{IsSeat, shown_by}
+use Rattle.rank_threads.proofs.Prelude.{map, false, Placed, IsSeat, shown_by}
 use Rattle.sum_tree.specs.TreeSeats.{IsSeat as IsSumSeat, shown_by as sums_shown}
 use Rattle.rank_threads.proofs.workers.turn_to_end.Given as goal
 

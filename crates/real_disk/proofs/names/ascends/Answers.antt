@@ -1,4 +1,4 @@
-use Rattle.std.proofs.Common.{◌∙◌, sym, arith, rules}
+use Rattle.real_disk.proofs.Prelude.{◌∙◌, sym, arith, rules}
 use Rattle.real_disk.proofs.Ascending.{first_name, next_name, less_from_lower}
 use Rattle.real_disk.proofs.names.ascends.Goals as goal
 

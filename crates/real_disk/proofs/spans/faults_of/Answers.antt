@@ -1,9 +1,4 @@
-use Rattle.std.proofs.Common.{◌≡◌, ◌+◌, ap, arith, ◌∙◌, take}
-use Rattle.std.proofs.lemmas.List.{take_all}
-use Rattle.std.proofs.lemmas.List.Sums.{sum_by_more}
-use Rattle.std.specs.List.{sum_by}
-use Rattle.outside.specs.Count.{capped}
-use Rattle.real_disk.specs.Spans.{count_of}
+use Rattle.real_disk.proofs.Prelude.{◌≡◌, ◌+◌, ap, arith, ◌∙◌, take, take_all, sum_by_more, sum_by, capped, count_of}
 use Rattle.real_disk.proofs.spans.faults_of.Goals as goal
 
 pub loop-span-preserved : goal.loop-span-preserved

@@ -1,7 +1,4 @@
-use Rattle.std.proofs.Common.{◌≡◌, take}
-use Rattle.std.specs.List.{sum_by}
-use Rattle.outside.specs.Count.{capped}
-use Rattle.real_disk.specs.Spans.{count_of}
+use Rattle.real_disk.proofs.Prelude.{◌≡◌, take, sum_by, capped, count_of}
 use Rattle.real_disk.proofs.spans.faults_of.Given as goal
 
 abbrev pub invariant-loop-span : goal.invariant-loop-span

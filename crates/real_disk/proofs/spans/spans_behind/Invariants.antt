@@ -1,6 +1,4 @@
-use Rattle.std.proofs.Common.{◌≡◌, ◌++◌, true, map, drop}
-use Rattle.outside.specs.Spans.{ascends_above, pieces_from}
-use Rattle.real_disk.specs.Spans.{blank}
+use Rattle.real_disk.proofs.Prelude.{◌≡◌, ◌++◌, true, map, drop, ascends_above, pieces_from, blank}
 use Rattle.real_disk.proofs.spans.spans_behind.Given as goal
 
 abbrev pub invariant-loop-cut : goal.invariant-loop-cut

@@ -1,9 +1,4 @@
-use Rattle.std.proofs.Common.{◌∙◌, ◌++◌, ap, length, subst}
-use Rattle.tool_text.specs.Lines.{lines_of}
-use Rattle.tool_text.specs.NoteOrder.{AreInOrder}
-use Rattle.tool_text.specs.Notes.{note_lines}
-use Rattle.run_entries.specs.Naming.{removal_notes}
-use Rattle.remove_report.specs.Removing.{removed_line}
+use Rattle.remove_report.proofs.Prelude.{◌∙◌, ◌++◌, ap, length, subst, lines_of, AreInOrder, note_lines, removal_notes, removed_line}
 use Rattle.remove_report.proofs.acting.remove_and_tell.Goals as goal
 
 pub returns-clause-told : goal.returns-clause-told

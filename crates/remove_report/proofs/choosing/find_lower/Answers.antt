@@ -1,4 +1,4 @@
-use Rattle.tool_words.specs.Asked.{choice_in}
+use Rattle.remove_report.proofs.Prelude.{choice_in}
 use Rattle.remove_report.proofs.Found.{can_be_removed, are_there}
 use Rattle.remove_report.proofs.choosing.find_lower.Goals as goal
 

@@ -1,7 +1,4 @@
-use Rattle.std.proofs.Common.{rules, subst}
-use Rattle.run_report.specs.Sides.{side_of, side_with}
-use Rattle.remove_report.specs.Choosing.{Acts}
-use Rattle.remove_report.specs.Removing.{remove_asked, LeavesRemove}
+use Rattle.remove_report.proofs.Prelude.{rules, subst, side_of, side_with, Acts, remove_asked, LeavesRemove}
 use Rattle.remove_report.proofs.Steps.{chooses_by, stops_finding, leaves_all, leaves_others}
 use Rattle.remove_report.proofs.removing.report_of_remove.Given as given
 use Rattle.remove_report.proofs.removing.report_of_remove.Goals as goal

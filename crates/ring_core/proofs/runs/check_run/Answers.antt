@@ -1,11 +1,5 @@
-use Rattle.std.proofs.Common.{◌≡◌, ◌+◌, take, sym, subst, ap, ◌∙◌, refl, Bool, true, false, cond, count_by, sum_by, arith}
-use mir.Val.{bool_byte}
-use Rattle.std.proofs.lemmas.List.Sums.{sum_by_more}
-use Rattle.std.proofs.lemmas.List.{take_all}
-use Rattle.ring_core.specs.World.{started, queued_in, on_way_in}
-use Rattle.ring_core.specs.Picture.{WorldInvariant}
-use Rattle.ring_core.specs.Step.{refused, after}
-use Rattle.ring_core.specs.Run.{after_all, is_handle, pushed}
+use Rattle.ring_core.proofs.Prelude.{◌≡◌, ◌+◌, take, sym, subst, ap, ◌∙◌, refl, Bool, true, false, cond, count_by, sum_by, arith, bool_byte, sum_by_more}
+use Rattle.ring_core.proofs.Prelude.{take_all, started, queued_in, on_way_in, WorldInvariant, refused, after, after_all, is_handle, pushed}
 use Rattle.ring_core.proofs.RunLemmas.{IsRun-take_more, after_all-take_more, WorldInvariant-started, WorldInvariant-after_all, nothing_left}
 use Rattle.ring_core.proofs.StringLemmas.{strings, strings-started, strings-after_all}
 use Rattle.ring_core.proofs.runs.check_run.Goals as goal

@@ -1,6 +1,4 @@
-use Rattle.std.proofs.Common.{◌≡◌, take, count_by}
-use Rattle.ring_core.specs.World.{started}
-use Rattle.ring_core.specs.Run.{IsRun, after_all, is_handle}
+use Rattle.ring_core.proofs.Prelude.{◌≡◌, take, count_by, started, IsRun, after_all, is_handle}
 use Rattle.ring_core.proofs.runs.check_run.Given as goal
 
 abbrev pub invariant-loop-at : goal.invariant-loop-at

@@ -1,5 +1,4 @@
-use Rattle.std.proofs.Common.{arith}
-use Rattle.std.proofs.lemmas.Bool.Decides.{nat_tests}
+use Rattle.ring_core.proofs.Prelude.{arith, nat_tests}
 use Rattle.ring_core.proofs.Dealing.{dealt_is}
 use Rattle.ring_core.proofs.worlds.dealt.Goals as goal
 

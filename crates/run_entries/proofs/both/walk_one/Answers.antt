@@ -1,6 +1,4 @@
-use Rattle.std.proofs.Common.{◌∷◌, [], subst}
-use Rattle.run_report.specs.Sides.{side_of}
-use Rattle.run_entries.specs.Entries.{Walked}
+use Rattle.run_entries.proofs.Prelude.{◌∷◌, [], subst, side_of, Walked}
 use Rattle.run_entries.proofs.Sided.{is_side, stats_told}
 use Rattle.run_entries.proofs.both.walk_one.Given as given
 use Rattle.run_entries.proofs.both.walk_one.Goals as goal

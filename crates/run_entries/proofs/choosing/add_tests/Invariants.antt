@@ -1,5 +1,4 @@
-use Rattle.std.proofs.Common.{◌≡◌, ◌++◌, map, take}
-use Rattle.run_entries.specs.Choosing.{newer_than}
+use Rattle.run_entries.proofs.Prelude.{◌≡◌, ◌++◌, map, take, newer_than}
 use Rattle.run_entries.proofs.choosing.add_tests.Given as goal
 
 abbrev pub invariant-loop-look : goal.invariant-loop-look

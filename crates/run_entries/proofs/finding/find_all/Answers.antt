@@ -1,7 +1,4 @@
-use Rattle.std.proofs.Common.{rules, ◌≤◌, [], None, refl, sym, subst}
-use Rattle.tool_words.specs.Asked.{start_in}
-use Rattle.run_report.specs.Sides.{side_of, side_with}
-use Rattle.run_entries.specs.Entries.{Tells}
+use Rattle.run_entries.proofs.Prelude.{rules, ◌≤◌, [], None, refl, sym, subst, start_in, side_of, side_with, Tells}
 use Rattle.run_entries.proofs.Found.{no_looks, stops_after}
 use Rattle.run_entries.proofs.finding.find_all.Goals as goal
 

@@ -1,12 +1,5 @@
-use Rattle.std.proofs.Common.{rules, ◌≡◌, ◌++◌, map, filter, subst, Some, true}
-use Rattle.entry_pages.specs.Entries.{is_shaped}
-use Rattle.find_tests.specs.Tests.{is_selected}
-use Rattle.tool_text.specs.NoteOrder.{AreInOrder}
-use Rattle.tool_words.specs.Asked.{start_in, choice_in}
-use Rattle.run_report.specs.Sides.{side_of, side_with}
-use Rattle.run_entries.specs.Choosing.{newer_than}
-use Rattle.run_entries.specs.Naming.{failures_in}
-use Rattle.run_entries.specs.Entries.{Listed, Tells}
+use Rattle.run_entries.proofs.Prelude.{rules, ◌≡◌, ◌++◌, map, filter, subst, Some, true, is_shaped, is_selected, AreInOrder, start_in, choice_in, side_of}
+use Rattle.run_entries.proofs.Prelude.{side_with, newer_than, failures_in, Listed, Tells}
 use Rattle.run_entries.proofs.Chosen.{chosen_ascends, chosen_holds}
 use Rattle.run_entries.proofs.Found.{stops_after}
 use Rattle.run_entries.proofs.finding.find_chosen.Goals as goal

@@ -1,6 +1,4 @@
-use Rattle.std.proofs.Common.{◌≡◌, ◌++◌, take}
-use Rattle.std.specs.List.{flat_map}
-use Rattle.run_entries.specs.Naming.{look_notes}
+use Rattle.run_entries.proofs.Prelude.{◌≡◌, ◌++◌, take, flat_map, look_notes}
 use Rattle.run_entries.proofs.naming.add_looks.Given as goal
 
 abbrev pub invariant-loop-look : goal.invariant-loop-look

@@ -1,7 +1,4 @@
-use Rattle.std.proofs.Common.{◌≡◌, [], sym, subst, arith}
-use Rattle.entry_pages.specs.Entries.{summary_of}
-use Rattle.tool_text.specs.NoteOrder.{AreInOrder}
-use Rattle.run_entries.specs.Naming.{failures_in}
+use Rattle.run_entries.proofs.Prelude.{◌≡◌, [], sym, subst, arith, summary_of, AreInOrder, failures_in}
 use Rattle.run_entries.proofs.Nothing.{nothing_failed}
 use Rattle.run_entries.proofs.naming.counted_failures.Goals as goal
 

@@ -1,5 +1,4 @@
-use Rattle.std.proofs.Common.{◌≡◌, ◌++◌, take}
-use Rattle.run_entries.specs.Naming.{copy_notes}
+use Rattle.run_entries.proofs.Prelude.{◌≡◌, ◌++◌, take, copy_notes}
 use Rattle.run_entries.proofs.naming.name_copies.Given as goal
 
 abbrev pub invariant-loop-row : goal.invariant-loop-row

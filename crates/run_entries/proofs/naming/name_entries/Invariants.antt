@@ -1,5 +1,4 @@
-use Rattle.std.proofs.Common.{◌≡◌, ◌++◌, map}
-use Rattle.run_entries.specs.Naming.{on_side}
+use Rattle.run_entries.proofs.Prelude.{◌≡◌, ◌++◌, map, on_side}
 use Rattle.run_entries.proofs.naming.name_entries.Given as goal
 
 abbrev pub invariant-loop-note : goal.invariant-loop-note

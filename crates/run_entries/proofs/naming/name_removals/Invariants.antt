@@ -1,5 +1,4 @@
-use Rattle.std.proofs.Common.{◌≡◌, ◌++◌, take}
-use Rattle.run_entries.specs.Naming.{removal_notes}
+use Rattle.run_entries.proofs.Prelude.{◌≡◌, ◌++◌, take, removal_notes}
 use Rattle.run_entries.proofs.naming.name_removals.Given as goal
 
 abbrev pub invariant-loop-row : goal.invariant-loop-row

@@ -1,8 +1,4 @@
-use Rattle.std.proofs.Common.{subst, sym}
-use Rattle.std.specs.Prelude.{IfErr}
-use Rattle.run_report.specs.Sides.{side_of}
-use Rattle.run_entries.specs.Saving.{output_of}
-use Rattle.run_entries.specs.Stopping.{StopsSaving}
+use Rattle.run_entries.proofs.Prelude.{subst, sym, IfErr, side_of, output_of, StopsSaving}
 use Rattle.run_entries.proofs.Saved.{if_one_stopped}
 use Rattle.run_entries.proofs.saving.save_list.Goals as goal
 

@@ -1,9 +1,4 @@
-use Rattle.std.proofs.Common.{rules, take, drop, suc, map, subst, sym, arith}
-use Rattle.std.proofs.lemmas.List.{take_all}
-use Rattle.run_report.specs.Sides.{side_of}
-use Rattle.run_entries.specs.declared.saving.Output.{Output}
-use Rattle.run_entries.specs.Saving.{Saved, SameButOutputs}
-use Rattle.run_entries.specs.Stopping.{StopsSaving}
+use Rattle.run_entries.proofs.Prelude.{rules, take, drop, suc, map, subst, sym, arith, take_all, side_of, Output, Saved, SameButOutputs, StopsSaving}
 use Rattle.run_entries.proofs.Saved.{rest_saved, rest_stopped, one_more, parted, taken_more}
 use Rattle.run_entries.proofs.saving.save_lists.Goals as goal
 

@@ -1,7 +1,4 @@
-use Rattle.std.proofs.Common.{◌≡◌, take}
-use Rattle.outside.specs.Count.{RoseBy}
-use Rattle.outside.specs.Writes.{nothing_lent}
-use Rattle.run_entries.specs.Saving.{Saved}
+use Rattle.run_entries.proofs.Prelude.{◌≡◌, take, RoseBy, nothing_lent, Saved}
 use Rattle.run_entries.proofs.saving.save_lists.Given as goal
 
 -- the outputs so far were saved

@@ -1,8 +1,4 @@
-use Rattle.std.proofs.Common.{subst, sym}
-use Rattle.std.specs.Prelude.{IfOk}
-use Rattle.tool_words.specs.Asked.{roots, start_in}
-use Rattle.run_report.specs.Sides.{side_of}
-use Rattle.run_entries.specs.Entries.{Listed, Tells}
+use Rattle.run_entries.proofs.Prelude.{subst, sym, IfOk, roots, start_in, side_of, Listed, Tells}
 use Rattle.run_entries.proofs.starting.list_from.Goals as goal
 
 pub returns-in-Roots-clause-told : goal.returns-in-Roots-clause-told

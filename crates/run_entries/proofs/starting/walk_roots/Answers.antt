@@ -1,8 +1,4 @@
-use Rattle.std.proofs.Common.{◌∙◌, ap, refl, subst, ◌≤◌, length, IfSome}
-use Rattle.flat_list.specs.Spelling.{max_entries}
-use Rattle.tree_walk.specs.Cut.{found_in}
-use Rattle.tree_walk.specs.Traced.{IsTracedWalk, WasWalked, IsProgressTo}
-use Rattle.run_entries.specs.Tells.{options_of}
+use Rattle.run_entries.proofs.Prelude.{◌∙◌, ap, refl, subst, ◌≤◌, length, IfSome, max_entries, found_in, IsTracedWalk, WasWalked, IsProgressTo, options_of}
 use Rattle.run_entries.proofs.starting.walk_roots.Goals as goal
 
 pub returns-clause-found : goal.returns-clause-found

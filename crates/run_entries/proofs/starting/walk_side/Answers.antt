@@ -1,7 +1,5 @@
-use Rattle.std.proofs.Common.{Ok, subst, sym}
-use Rattle.tool_words.specs.Asked.{roots}
-use Rattle.run_report.specs.Sides.{side_of}
-use Rattle.run_entries.specs.Stopping.{StopsListing}
+use Rattle.run_entries.proofs.Prelude.{subst, sym, roots, side_of, StopsListing}
+use Rattle.std.proofs.Common.{Ok}
 use Rattle.run_entries.proofs.Told.{walked_from, told, stops}
 use Rattle.run_entries.proofs.starting.walk_side.Goals as goal
 

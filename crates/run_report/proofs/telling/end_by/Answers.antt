@@ -1,6 +1,5 @@
+use Rattle.run_report.proofs.Prelude.{refusal_line, stream_of}
 use Rattle.run_report.specs.declared.statuses.Status.TheVariants as status
-use Rattle.run_report.specs.Lines.{refusal_line}
-use Rattle.run_report.specs.Sides.{stream_of}
 use Rattle.run_report.proofs.OneLine.{told_by}
 use Rattle.run_report.proofs.telling.end_by.Goals as goal
 

@@ -1,6 +1,4 @@
-use Rattle.std.proofs.Common.{sym, subst, ◌∙◌}
-use Rattle.run_report.specs.Sides.{stream_of}
-use Rattle.run_report.specs.Stops.{ToldRefusal}
+use Rattle.run_report.proofs.Prelude.{sym, subst, ◌∙◌, stream_of, ToldRefusal}
 use Rattle.run_report.proofs.telling.end_refused.Goals as goal
 
 pub returns-in-Some-clause-told : goal.returns-in-Some-clause-told

@@ -1,7 +1,4 @@
-use Rattle.std.proofs.Common.{◌≡◌, ◌++◌, ◌∷◌, [], codes, ap, sym, subst, ◌∙◌}
-use Rattle.std.specs.Prelude.{IfOk}
-use Rattle.std.specs.Fmt.{decimal}
-use Rattle.std.proofs.lemmas.List.{append_assoc}
+use Rattle.run_report.proofs.Prelude.{◌≡◌, ◌++◌, ◌∷◌, [], codes, ap, sym, subst, ◌∙◌, IfOk, decimal, append_assoc}
 use Rattle.run_report.proofs.telling.stopped_line.Goals as goal
 
 pub returns : goal.returns

@@ -1,5 +1,4 @@
-use Rattle.std.proofs.Common.{◌-◌, ◌≤◌, length, All}
-use Rattle.shared_reads.specs.Desks.{HasRoom}
+use Rattle.shared_reads.proofs.Prelude.{◌-◌, ◌≤◌, length, All, HasRoom}
 use Rattle.shared_reads.proofs.hiring.desks.Given as goal
 
 abbrev pub invariant-loop-alloc : goal.invariant-loop-alloc

@@ -1,5 +1,5 @@
-use Rattle.std.proofs.Common.{◌≡◌, ◌+◌, ◌≤◌, ◌++◌, map, reverse, vec_len}
-use Rattle.std.specs.Vec.{vec_capacity}
+use Rattle.shared_reads.proofs.Prelude.{◌≡◌, ◌+◌, ◌≤◌, ◌++◌, map, vec_len, vec_capacity}
+use Rattle.std.proofs.Common.{reverse}
 use Rattle.shared_reads.proofs.hiring.dismissed.Given as goal
 
 abbrev pub invariant-loop-worker : goal.invariant-loop-worker

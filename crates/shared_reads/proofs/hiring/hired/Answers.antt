@@ -1,9 +1,5 @@
-use Rattle.std.proofs.Common.{arith, ◌≡◌, List, [], ◌∷◌, ◌++◌, length, length-append, map, ap, sym, subst, ◌∙◌, All}
-use Rattle.std.specs.Prelude.{reverse}
-use Rattle.std.proofs.lemmas.List.Elements.{All-push}
-use Rattle.shared_reads.specs.declared.sharing.Worker.{Worker}
-use Rattle.shared_reads.specs.Desks.{HasRoom}
-use Rattle.shared_reads.specs.Private.Sharing.{IsIdle}
+use Rattle.shared_reads.proofs.Prelude.{arith, ◌≡◌, List, [], ◌∷◌, ◌++◌, length, length-append, map, ap, sym, subst, ◌∙◌, All, reverse, All-push, Worker}
+use Rattle.shared_reads.proofs.Prelude.{HasRoom, IsIdle}
 use Rattle.shared_reads.proofs.Hired.{moved, unpushed}
 use Rattle.shared_reads.proofs.hiring.hired.Goals as goal
 

@@ -1,7 +1,5 @@
-use Rattle.std.proofs.Common.{◌≡◌, ◌+◌, ◌≤◌, ◌++◌, map, reverse, length, All, vec_len}
-use Rattle.std.specs.Vec.{vec_capacity}
-use Rattle.shared_reads.specs.Desks.{HasRoom}
-use Rattle.shared_reads.specs.Private.Sharing.{IsIdle}
+use Rattle.shared_reads.proofs.Prelude.{◌≡◌, ◌+◌, ◌≤◌, ◌++◌, map, length, All, vec_len, vec_capacity, HasRoom, IsIdle}
+use Rattle.std.proofs.Common.{reverse}
 use Rattle.shared_reads.proofs.hiring.hired.Given as goal
 
 abbrev pub invariant-loop-desk : goal.invariant-loop-desk

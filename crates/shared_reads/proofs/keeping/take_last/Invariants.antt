@@ -1,5 +1,4 @@
-use Rattle.std.proofs.Common.{length}
-use Rattle.shared_reads.specs.Kept.{IsCut}
+use Rattle.shared_reads.proofs.Prelude.{length, IsCut}
 use Rattle.shared_reads.proofs.keeping.take_last.Given as goal
 
 abbrev pub invariant-loop-last : goal.invariant-loop-last

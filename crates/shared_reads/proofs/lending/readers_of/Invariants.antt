@@ -1,5 +1,5 @@
-use Rattle.std.proofs.Common.{◌≡◌, ◌-◌, ◌≤◌, length}
-use Rattle.std.specs.List.{All, sum_by}
+use Rattle.shared_reads.proofs.Prelude.{◌≡◌, ◌-◌, ◌≤◌, length, sum_by}
+use Rattle.std.specs.List.{All}
 use Rattle.shared_reads.proofs.lending.readers_of.Given as goal
 
 -- the readers so far

@@ -1,5 +1,4 @@
-use Rattle.std.proofs.Common.{◌≡◌, ◌+◌, ◌-◌, ◌^◌, ◌<◌, min}
-use Rattle.std.specs.List.{sum_by}
+use Rattle.shared_reads.proofs.Prelude.{◌≡◌, ◌+◌, ◌-◌, ◌^◌, ◌<◌, min, sum_by}
 use Rattle.shared_reads.proofs.lending.take_back.Given as goal
 
 -- the counts that were added so far

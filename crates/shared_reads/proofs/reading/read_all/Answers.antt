@@ -1,7 +1,4 @@
-use Rattle.std.proofs.Common.{arith, ◌≡◌, ◌++◌, length, map, subst, sym, ap, ◌∙◌, List}
-use Rattle.std.specs.Prelude.{reverse}
-use Rattle.shared_reads.specs.Counts.{NoneFell}
-use Rattle.shared_reads.specs.declared.sharing.Worker.{Worker}
+use Rattle.shared_reads.proofs.Prelude.{arith, ◌≡◌, ◌++◌, length, map, subst, sym, ap, ◌∙◌, List, reverse, NoneFell, Worker}
 use Rattle.shared_reads.proofs.Hired.{written}
 use Rattle.shared_reads.proofs.Workers.{NoneFell-same, readers_of, lists_of, same_trees, none_fell, counted, holds}
 use Rattle.shared_reads.proofs.reading.read_all.Goals as goal

@@ -1,5 +1,4 @@
-use Rattle.std.proofs.Common.{◌≡◌, map}
-use Rattle.stage_report.specs.Stages.{all_of}
+use Rattle.stage_report.proofs.Prelude.{◌≡◌, map, all_of}
 use Rattle.stage_report.proofs.beginning.all_of.Given as goal
 
 abbrev pub invariant-loop-list : goal.invariant-loop-list

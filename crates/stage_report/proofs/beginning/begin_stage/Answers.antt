@@ -1,7 +1,4 @@
-use Rattle.std.proofs.Common.{sym, subst, map}
-use Rattle.tree_walk.specs.Roots.{Apart}
-use Rattle.stage_report.specs.Stages.{all_of}
-use Rattle.stage_report.specs.Private.{IsWritable, IsBeside}
+use Rattle.stage_report.proofs.Prelude.{sym, subst, map, Apart, all_of, IsWritable, IsBeside}
 use Rattle.stage_report.proofs.Joins.{no_entries_writable, no_entries_beside}
 use Rattle.stage_report.proofs.Beside.{placed_beside}
 use Rattle.stage_report.proofs.Placed.{placed_apart}

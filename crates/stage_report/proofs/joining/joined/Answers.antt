@@ -1,4 +1,4 @@
-use Rattle.std.proofs.Common.{◌∙◌, sym}
+use Rattle.stage_report.proofs.Prelude.{◌∙◌, sym}
 use Rattle.stage_report.proofs.joining.joined.Goals as goal
 use Rattle.stage_report.proofs.Joins.{joined_alone, no_length}
 

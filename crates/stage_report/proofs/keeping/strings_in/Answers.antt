@@ -1,6 +1,5 @@
-use Rattle.std.proofs.Common.{arith, ℕ, List, map, Vec, Global}
-use Rattle.path_text.specs.declared.paths.Path.{Path}
-use Rattle.checkpoints.proofs.Numbers.{number_more, at_map}
+use Rattle.stage_report.proofs.Prelude.{arith, ℕ, List, map, Path, number_more, at_map}
+use Rattle.std.proofs.Common.{Vec, Global}
 use Rattle.stage_report.proofs.keeping.strings_in.Goals as goal
 
 items : Vec Path Global → List (List ℕ)

@@ -1,5 +1,4 @@
-use Rattle.std.proofs.Common.{◌≡◌, map, length, take}
-use Rattle.stage_report.specs.Stages.{all_of}
+use Rattle.stage_report.proofs.Prelude.{◌≡◌, map, length, take, all_of}
 use Rattle.stage_report.proofs.keeping.strings_in.Given as goal
 
 abbrev pub invariant-loop-list : goal.invariant-loop-list

@@ -1,7 +1,4 @@
-use Rattle.std.proofs.Common.{rules, ◌∙◌, subst}
-use Rattle.std.specs.Option.{option_map}
-use Rattle.run_report.specs.Sides.{side_of}
-use Rattle.stage_report.specs.Private.{IsStage, StopsWalk, WalksNot}
+use Rattle.stage_report.proofs.Prelude.{rules, ◌∙◌, subst, option_map, side_of, IsStage, StopsWalk, WalksNot}
 use Rattle.stage_report.proofs.Staged.{not_begun, too_much}
 use Rattle.stage_report.proofs.stages.begin_and_walk.Goals as goal
 

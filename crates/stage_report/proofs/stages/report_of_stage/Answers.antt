@@ -1,10 +1,4 @@
-use Rattle.std.proofs.Common.{rules, length, subst}
-use Rattle.run_report.specs.Sides.{side_of}
-use Rattle.run_entries.specs.Saving.{Saved, output_of}
-use Rattle.run_entries.specs.Stopping.{StopsSaving}
-use Rattle.checkpoints.specs.Stopping.{StopsWriting}
-use Rattle.stage_report.specs.Stages.{stage_asked, StopsStage}
-use Rattle.stage_report.specs.Private.{WalksNot}
+use Rattle.stage_report.proofs.Prelude.{rules, length, subst, side_of, Saved, output_of, StopsSaving, StopsWriting, stage_asked, StopsStage, WalksNot}
 use Rattle.stage_report.proofs.Staged.{cut_off, not_walked, not_saved, not_kept, kept, prints_all, reports, told_as}
 use Rattle.stage_report.proofs.Leaves.{leaves_saved, leaves_cut}
 use Rattle.stage_report.proofs.stages.report_of_stage.Goals as goal

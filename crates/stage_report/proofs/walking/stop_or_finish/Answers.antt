@@ -1,4 +1,4 @@
-use Rattle.std.proofs.Common.{refl}
+use Rattle.stage_report.proofs.Prelude.{refl}
 use Rattle.stage_report.proofs.Walked.{setting, stage_is}
 use Rattle.stage_report.proofs.walking.stop_or_finish.Goals as goal
 

@@ -1,4 +1,4 @@
-use Rattle.std.proofs.Common.{ap, arith, length}
+use Rattle.stage_report.proofs.Prelude.{ap, arith, length}
 use Rattle.stage_report.proofs.Walked.{setting, too_long, writable}
 use Rattle.stage_report.proofs.walking.walk_stage.Goals as goal
 

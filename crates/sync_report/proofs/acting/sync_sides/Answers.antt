@@ -1,5 +1,4 @@
-use Rattle.std.proofs.Common.{IfSome, subst}
-use Rattle.outside.specs.Parts.{IsTreeIn}
+use Rattle.sync_report.proofs.Prelude.{IfSome, subst, IsTreeIn}
 use Rattle.sync_report.proofs.Equal.{Laws, makes_equal}
 use Rattle.sync_report.proofs.acting.sync_sides.Goals as goal
 

@@ -1,5 +1,4 @@
-use Rattle.std.proofs.Common.{◌≡◌, ◌++◌, take}
-use Rattle.sync_report.specs.Syncing.{path_notes}
+use Rattle.sync_report.proofs.Prelude.{◌≡◌, ◌++◌, take, path_notes}
 use Rattle.sync_report.proofs.naming.add_paths.Given as goal
 
 -- the notes of the paths that were passed

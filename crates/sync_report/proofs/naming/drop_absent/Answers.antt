@@ -1,5 +1,4 @@
-use Rattle.std.proofs.Common.{rules}
-use Rattle.std.proofs.lemmas.Fn.{filter_same}
+use Rattle.sync_report.proofs.Prelude.{rules, filter_same}
 use Rattle.sync_report.proofs.naming.drop_absent.Goals as goal
 
 pub returns : goal.returns

@@ -1,7 +1,4 @@
-use Rattle.std.proofs.Common.{rules, ◌≡◌, ◌<◌, ◌^◌, IfErr, IfSome, subst}
-use Rattle.outside.specs.Count.{capped}
-use Rattle.tree_sync.specs.Placing.{IsSyncWhy, sync_placed_over}
-use Rattle.run_report.specs.Sides.{side_of}
+use Rattle.sync_report.proofs.Prelude.{rules, ◌≡◌, ◌<◌, ◌^◌, IfErr, IfSome, subst, capped, IsSyncWhy, sync_placed_over, side_of}
 use Rattle.sync_report.proofs.Placed.{stops_placing, taken_back}
 use Rattle.sync_report.proofs.placing.place_pair.Goals as goal
 

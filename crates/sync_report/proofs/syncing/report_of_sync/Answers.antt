@@ -1,9 +1,5 @@
-use Rattle.std.proofs.Common.{rules, ◌∙◌, inl, inr, refl, ap, length}
-use Rattle.tool_text.specs.Notes.{note_lines}
-use Rattle.tool_text.specs.Synced.{synced_line}
-use Rattle.run_report.specs.Sides.{side_of}
+use Rattle.sync_report.proofs.Prelude.{rules, ◌∙◌, inl, inr, refl, ap, length, note_lines, synced_line, side_of, StopsSync, counts_of, pair_of, sync_asked}
 use Rattle.run_report.specs.declared.stops.Stop.TheVariants as stop
-use Rattle.sync_report.specs.Syncing.{StopsSync, counts_of, pair_of, sync_asked}
 use Rattle.sync_report.proofs.Noted.{named_equal}
 use Rattle.sync_report.proofs.Steps.{Looked, leaves_rest, stops_walking, surveys_by, syncs_by}
 use Rattle.sync_report.proofs.syncing.report_of_sync.Goals as goal

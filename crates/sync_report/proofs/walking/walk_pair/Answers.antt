@@ -1,6 +1,4 @@
-use Rattle.std.proofs.Common.{rules, ◌∙◌, subst}
-use Rattle.run_report.specs.Sides.{side_of}
-use Rattle.run_entries.specs.Both.{StopsEitherWalk, WalksBoth}
+use Rattle.sync_report.proofs.Prelude.{rules, ◌∙◌, subst, side_of, StopsEitherWalk, WalksBoth}
 use Rattle.sync_report.proofs.Ready.{Laws, ready}
 use Rattle.sync_report.proofs.walking.walk_pair.Goals as goal
 

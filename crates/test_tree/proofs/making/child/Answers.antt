@@ -1,6 +1,4 @@
-use Rattle.std.proofs.Common.{◌∙◌, ap, subst, sym, arith, Err}
-use Rattle.std.specs.Bool.{IsTrue}
-use Rattle.path_text.specs.Path.{is_name}
+use Rattle.test_tree.proofs.Prelude.{◌∙◌, ap, subst, sym, arith, Err, IsTrue, is_name}
 use Rattle.test_tree.proofs.Numbered.{name_fine}
 use Rattle.test_tree.proofs.Placed.{made_of, fits_made}
 use Rattle.test_tree.proofs.making.child.Goals as goal

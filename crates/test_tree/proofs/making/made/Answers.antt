@@ -1,5 +1,4 @@
-use Rattle.std.proofs.Common.{◌≡◌, ◌∙◌, sym, ap, arith}
-use Rattle.test_tree.specs.Made.{memory_of, first_files}
+use Rattle.test_tree.proofs.Prelude.{◌≡◌, ◌∙◌, sym, ap, arith, memory_of, first_files}
 use Rattle.test_tree.proofs.Filled.{first_none, first_all}
 use Rattle.test_tree.proofs.making.made.Goals as goal
 

@@ -1,5 +1,4 @@
-use Rattle.std.proofs.Common.{◌≡◌, ◌-◌}
-use Rattle.test_tree.specs.Made.{made, place_over}
+use Rattle.test_tree.proofs.Prelude.{◌≡◌, ◌-◌, made, place_over}
 use Rattle.test_tree.proofs.making.made.Given as goal
 
 abbrev pub invariant-loop-k : goal.invariant-loop-k

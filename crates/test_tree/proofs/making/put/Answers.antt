@@ -1,9 +1,4 @@
-use Rattle.std.proofs.Common.{◌≡◌, ◌*◌, ◌%◌, ◌∙◌, None, sym, ap, subst, arith}
-use Rattle.std.specs.Prelude.{Result, Ok, OnOk}
-use Rattle.std.proofs.lemmas.List.{take-replicate}
-use Rattle.outside.specs.Tree.{file}
-use Rattle.files_mem.specs.Memory.{Memory, with_node}
-use Rattle.files_mem.specs.declared.errors.PutError.{PutError}
+use Rattle.test_tree.proofs.Prelude.{◌≡◌, ◌*◌, ◌%◌, ◌∙◌, None, sym, ap, subst, arith, Result, Ok, OnOk, take-replicate, file, Memory, with_node, PutError}
 use Rattle.test_tree.proofs.Filled.{node_is_dir, node_is_file}
 use Rattle.test_tree.proofs.making.put.Goals.{then-k-nodes, else-k-nodes}
 use Rattle.test_tree.proofs.making.put.Goals as goal

@@ -1,8 +1,4 @@
-use Rattle.std.proofs.Common.{◌≡◌, ◌∙◌, ap, sym, subst, arith}
-use Rattle.std.specs.Prelude.{OnOk}
-use Rattle.files_mem.specs.Memory.{with_node}
-use Rattle.test_tree.specs.Nodes.{node_of}
-use Rattle.test_tree.specs.Made.{memory_of}
+use Rattle.test_tree.proofs.Prelude.{◌≡◌, ◌∙◌, ap, sym, subst, arith, OnOk, with_node, node_of, memory_of}
 use Rattle.test_tree.proofs.Filled.{next_free, grown}
 use Rattle.test_tree.proofs.making.put_next.Goals as goal
 

@@ -1,5 +1,4 @@
-use Rattle.std.proofs.Common.{◌≡◌, ◌∙◌, ℕ, List, ◌++◌, ap, append_assoc, codes, rules}
-use Rattle.tool_text.specs.Rows.{labelled}
+use Rattle.tool_text.proofs.Prelude.{◌≡◌, ◌∙◌, ℕ, List, ◌++◌, ap, append_assoc, codes, rules, labelled}
 use Rattle.tool_text.proofs.comparing.add_field_counts.Goals as goal
 
 three : (d l m n a b c : List ℕ) → l ≡ d ++ a → m ≡ l ++ b → n ≡ m ++ c → n ≡ d ++ (a ++ b ++ c)

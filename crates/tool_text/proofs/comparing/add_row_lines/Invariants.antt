@@ -1,5 +1,4 @@
-use Rattle.std.proofs.Common.{◌≡◌, ◌++◌, take}
-use Rattle.tool_text.specs.Rows.{row_lines}
+use Rattle.tool_text.proofs.Prelude.{◌≡◌, ◌++◌, take, row_lines}
 use Rattle.tool_text.proofs.comparing.add_row_lines.Given as goal
 
 abbrev pub invariant-loop-k : goal.invariant-loop-k

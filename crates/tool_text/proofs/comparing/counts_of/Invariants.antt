@@ -1,5 +1,4 @@
-use Rattle.std.proofs.Common.{◌≡◌, take}
-use Rattle.tool_text.specs.Rows.{counts_of}
+use Rattle.tool_text.proofs.Prelude.{◌≡◌, take, counts_of}
 use Rattle.tool_text.proofs.comparing.counts_of.Given as goal
 
 -- what was counted

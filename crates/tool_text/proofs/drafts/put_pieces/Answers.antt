@@ -1,7 +1,5 @@
-use Rattle.std.proofs.Common.{◌≡◌, ◌<◌, ◌+◌, ℕ, List, ◌++◌, take, drop, length, get_or, ap, sym, ◌∙◌, append_assoc, rules}
-use Rattle.std.specs.List.{flat_map}
-use Rattle.std.proofs.lemmas.List.{take-append-drop, drop_more}
-use Rattle.std.proofs.lemmas.List.Concat.{flat_map-append, flat_map-cons}
+use Rattle.tool_text.proofs.Prelude.{◌≡◌, ◌<◌, ◌+◌, ℕ, List, ◌++◌, take, drop, length, get_or, ap, sym, ◌∙◌, append_assoc, rules, flat_map, take-append-drop}
+use Rattle.tool_text.proofs.Prelude.{drop_more, flat_map-append, flat_map-cons}
 use Rattle.tool_text.proofs.PutBehind.{part_of_more, part_behind}
 use Rattle.tool_text.proofs.drafts.put_pieces.Goals as goal
 

@@ -1,7 +1,4 @@
-use Rattle.std.proofs.Common.{◌≡◌, ◌++◌, take, IfSome, Some}
-use Rattle.std.specs.List.{flat_map}
-use Rattle.std.specs.Option.{is_some}
-use Rattle.outside.specs.Count.{RoseBy}
+use Rattle.tool_text.proofs.Prelude.{◌≡◌, ◌++◌, take, IfSome, Some, flat_map, is_some, RoseBy}
 use Rattle.tool_text.proofs.drafts.put_pieces.Given as goal
 
 abbrev pub invariant-loop-piece : goal.invariant-loop-piece

@@ -1,5 +1,4 @@
-use Rattle.std.proofs.Common.{◌≡◌, ◌++◌, take}
-use Rattle.tool_text.specs.Groups.{group_lines}
+use Rattle.tool_text.proofs.Prelude.{◌≡◌, ◌++◌, take, group_lines}
 use Rattle.tool_text.proofs.grouping.add_group_lines.Given as goal
 
 abbrev pub invariant-loop-k : goal.invariant-loop-k

@@ -1,5 +1,4 @@
-use Rattle.std.proofs.Common.{◌≡◌, ◌++◌, take}
-use Rattle.tool_text.specs.Groups.{path_lines}
+use Rattle.tool_text.proofs.Prelude.{◌≡◌, ◌++◌, take, path_lines}
 use Rattle.tool_text.proofs.grouping.add_paths.Given as goal
 
 abbrev pub invariant-loop-path : goal.invariant-loop-path

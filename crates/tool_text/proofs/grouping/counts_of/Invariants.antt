@@ -1,4 +1,4 @@
-use Rattle.std.proofs.Common.{◌≡◌, ◌≤◌, ◌*◌, ◌^◌, take}
+use Rattle.tool_text.proofs.Prelude.{◌≡◌, ◌≤◌, ◌*◌, ◌^◌, take}
 use Rattle.tool_text.specs.Groups.{counts_of}
 use Rattle.tool_text.proofs.grouping.counts_of.Given as goal
 

@@ -1,7 +1,4 @@
-use Rattle.std.proofs.Common.{◌≡◌, ◌∙◌, ℕ, ◌+◌, ◌-◌, ◌/◌, ◌++◌, List, [], arith, ap₂, subst}
-use Rattle.std.specs.Prelude.{IfOk}
-use Rattle.std.proofs.lemmas.Result.{IfOk-at_ok}
-use Rattle.tool_text.specs.Lines.{lines_between}
+use Rattle.tool_text.proofs.Prelude.{◌≡◌, ◌∙◌, ℕ, ◌+◌, ◌-◌, ◌/◌, ◌++◌, List, [], arith, ap₂, subst, IfOk, IfOk-at_ok, lines_between}
 use Rattle.tool_text.proofs.Between.{between_both}
 use Rattle.tool_text.proofs.halving.+halves.Goals as goal
 

@@ -1,4 +1,4 @@
-use Rattle.std.proofs.Common.{◌+◌, ◌-◌, ◌*◌}
+use Rattle.tool_text.proofs.Prelude.{◌+◌, ◌-◌, ◌*◌}
 use Rattle.tool_text.proofs.halving.+halves.Given as goal
 
 abbrev pub decreases-back : goal.decreases-back

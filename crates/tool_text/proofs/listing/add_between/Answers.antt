@@ -1,4 +1,4 @@
-use Rattle.std.proofs.Common.{◌∙◌, ◌+◌, ◌++◌, append-nil, ap, sym, arith, rules}
+use Rattle.tool_text.proofs.Prelude.{◌∙◌, ◌+◌, ◌++◌, append-nil, ap, sym, arith, rules}
 use Rattle.tool_text.proofs.Between.{between_none}
 use Rattle.tool_text.proofs.listing.add_between.Goals as goal
 

@@ -1,5 +1,4 @@
-use Rattle.std.proofs.Common.{◌≡◌, ◌++◌}
-use Rattle.tool_text.specs.Lines.{lines_between}
+use Rattle.tool_text.proofs.Prelude.{◌≡◌, ◌++◌, lines_between}
 use Rattle.tool_text.proofs.listing.add_between.Given as goal
 
 abbrev pub invariant-loop : goal.invariant-loop

@@ -1,5 +1,4 @@
-use Rattle.std.proofs.Common.{◌≡◌, ◌++◌, take}
-use Rattle.tool_text.specs.Notes.{note_lines}
+use Rattle.tool_text.proofs.Prelude.{◌≡◌, ◌++◌, take, note_lines}
 use Rattle.tool_text.proofs.noting.add_notes.Given as goal
 
 abbrev pub invariant-loop-note : goal.invariant-loop-note

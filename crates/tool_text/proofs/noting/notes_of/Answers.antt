@@ -1,6 +1,4 @@
-use Rattle.std.proofs.Common.{arith, ◌≡◌, ◌∙◌, ap, sym}
-use Rattle.std.proofs.lemmas.Grind.{common_steps}
-use Rattle.entry_pages.specs.declared.summaries.Summary.{Summary}
+use Rattle.tool_text.proofs.Prelude.{arith, ◌≡◌, ◌∙◌, ap, sym, common_steps, Summary}
 use Rattle.tool_text.proofs.Noted.{length-notes_of, no_notes}
 use Rattle.tool_text.proofs.noting.notes_of.Goals as goal
 

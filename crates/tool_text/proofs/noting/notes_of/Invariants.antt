@@ -1,5 +1,4 @@
-use Rattle.std.proofs.Common.{◌≡◌, ◌≤◌, ◌-◌, length, take}
-use Rattle.tool_text.specs.Notes.{notes_of}
+use Rattle.tool_text.proofs.Prelude.{◌≡◌, ◌≤◌, ◌-◌, length, take, notes_of}
 use Rattle.tool_text.proofs.noting.notes_of.Given as goal
 
 abbrev pub invariant-loop-cursor : goal.invariant-loop-cursor

@@ -1,9 +1,4 @@
-use Rattle.std.proofs.Common.{rules}
-use Rattle.std.specs.Ordering.{is_lt, eq_by_cmp}
-use Rattle.std.proofs.lemmas.Fn.{dedup_same}
-use Rattle.std.proofs.lemmas.List.Sorted.{ranks_by, answers_always}
-use Rattle.tool_text.specs.declared.noting.Note.{Note}
-use Rattle.tool_text.specs.NoteOrder.{note_cmp}
+use Rattle.tool_text.proofs.Prelude.{rules, is_lt, eq_by_cmp, dedup_same, ranks_by, answers_always, Note, note_cmp}
 use Rattle.tool_text.proofs.NotesCompared.{note_total}
 use Rattle.tool_text.proofs.NotesOrdered.{sorted_once}
 use Rattle.tool_text.proofs.ordering.in_order.Goals as goal

@@ -1,5 +1,4 @@
-use Rattle.std.proofs.Common.{◌≡◌, ◌++◌, take}
-use Rattle.tool_text.specs.Runs.{progress_lines}
+use Rattle.tool_text.proofs.Prelude.{◌≡◌, ◌++◌, take, progress_lines}
 use Rattle.tool_text.proofs.running.add_progress.Given as goal
 
 abbrev pub invariant-loop-sum : goal.invariant-loop-sum

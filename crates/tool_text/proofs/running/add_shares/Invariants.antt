@@ -1,5 +1,4 @@
-use Rattle.std.proofs.Common.{◌≡◌, ◌++◌, drop}
-use Rattle.tool_text.specs.Runs.{share_lines, share_lines_from}
+use Rattle.tool_text.proofs.Prelude.{◌≡◌, ◌++◌, drop, share_lines, share_lines_from}
 use Rattle.tool_text.proofs.running.add_shares.Given as goal
 
 -- with the lines of the ranks that are left all is there

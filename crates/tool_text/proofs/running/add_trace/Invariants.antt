@@ -1,5 +1,4 @@
-use Rattle.std.proofs.Common.{◌≡◌, ◌++◌, take}
-use Rattle.tool_text.specs.Runs.{trace_lines}
+use Rattle.tool_text.proofs.Prelude.{◌≡◌, ◌++◌, take, trace_lines}
 use Rattle.tool_text.proofs.running.add_trace.Given as goal
 
 abbrev pub invariant-loop-event : goal.invariant-loop-event

@@ -1,4 +1,4 @@
-use Rattle.std.proofs.Common.{rules, arith, string_bytes}
+use Rattle.tool_words.proofs.Prelude.{rules, arith, string_bytes}
 use Rattle.tool_words.proofs.Steps.{word_at, more, refused, refused_by}
 use Rattle.tool_words.proofs.reading.read_line.Goals as goal
 

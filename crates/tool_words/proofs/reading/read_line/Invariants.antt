@@ -1,4 +1,4 @@
-use Rattle.std.proofs.Common.{map, string_bytes}
+use Rattle.tool_words.proofs.Prelude.{map, string_bytes}
 use Rattle.tool_words.proofs.Steps.{Read}
 use Rattle.tool_words.proofs.reading.read_line.Given as goal
 

@@ -1,4 +1,4 @@
-use Rattle.std.proofs.Common.{rules, sym, arith}
+use Rattle.tool_words.proofs.Prelude.{rules, sym, arith}
 use Rattle.tool_words.proofs.Numbers.{not_parsed}
 use Rattle.tool_words.proofs.values.number_in.Goals as goal
 

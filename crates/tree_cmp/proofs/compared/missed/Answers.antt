@@ -1,8 +1,4 @@
-use Rattle.std.proofs.Common.{arith, [], ◌++◌, ◌<◌, length, take, ap, sym, ◌∙◌, List}
-use Rattle.std.specs.List.{cons_option, filter_map}
-use Rattle.tree_cmp.specs.declared.drafts.Draft.{Draft}
-use Rattle.tree_cmp.specs.declared.rows.Missed.{Missed}
-use Rattle.tree_cmp.specs.Private.Parts.{missed_by}
+use Rattle.tree_cmp.proofs.Prelude.{arith, [], ◌++◌, ◌<◌, length, take, ap, sym, ◌∙◌, List, cons_option, filter_map, Draft, Missed, missed_by}
 use Rattle.tree_cmp.proofs.Lists.{filter_map_more}
 use Rattle.tree_cmp.proofs.compared.missed.Goals as goal
 

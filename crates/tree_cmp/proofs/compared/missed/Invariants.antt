@@ -1,6 +1,4 @@
-use Rattle.std.proofs.Common.{◌≡◌, take}
-use Rattle.std.specs.List.{filter_map}
-use Rattle.tree_cmp.specs.Private.Parts.{missed_by}
+use Rattle.tree_cmp.proofs.Prelude.{◌≡◌, take, filter_map, missed_by}
 use Rattle.tree_cmp.proofs.compared.missed.Given as goal
 
 abbrev pub invariant-loop-draft : goal.invariant-loop-draft

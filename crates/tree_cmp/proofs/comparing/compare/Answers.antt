@@ -1,9 +1,5 @@
-use Rattle.std.proofs.Common.{◌≡◌, map, length, subst, sym, IfOk, Result, Ok, Err}
-use Rattle.tree_cmp.specs.Sides.{side}
-use Rattle.tree_cmp.specs.Rows.{Findings, IsComparison}
-use Rattle.tree_cmp.specs.Readers.{first_told, HaveCauses, RoseTogether}
-use Rattle.tree_cmp.specs.Private.Items.{items_of, links_at, AreDrafts}
-use Rattle.tree_cmp.specs.Private.Parts.{findings_of}
+use Rattle.tree_cmp.proofs.Prelude.{◌≡◌, map, length, subst, sym, IfOk, Result, Ok, Err, side, Findings, IsComparison, first_told, HaveCauses, RoseTogether}
+use Rattle.tree_cmp.proofs.Prelude.{items_of, links_at, AreDrafts, findings_of}
 use Rattle.tree_cmp.proofs.Counts.{NoneFell-same}
 use Rattle.tree_cmp.proofs.Finding.{comparison, fresh}
 use Rattle.tree_cmp.proofs.OneRow.{failed_count}

@@ -1,12 +1,5 @@
-use Rattle.std.proofs.Common.{◌≡◌, ◌<◌, ◌≤◌, List, length, map, get_or, ap, sym, subst, ◌∙◌, All}
-use Rattle.std.specs.Prelude.{OnOk}
-use Rattle.shared_reads.specs.Counts.{KeepsUp}
-use Rattle.shared_reads.specs.Kept.{Holds, held}
-use Rattle.shared_reads.proofs.Counted.{fell_same, then_fell, then_rose, rose_none, first_same, still_some}
-use Rattle.tree_cmp.specs.declared.drafts.Draft.{Draft}
-use Rattle.tree_cmp.specs.Readers.{first_told}
-use Rattle.tree_cmp.specs.Private.Reading.{counts}
-use Rattle.tree_cmp.specs.Private.Sharing.{IsOfRow, IsSettled, blames}
+use Rattle.tree_cmp.proofs.Prelude.{◌≡◌, ◌<◌, ◌≤◌, List, length, map, get_or, ap, sym, subst, ◌∙◌, All, OnOk, KeepsUp, Holds, held, fell_same, then_fell}
+use Rattle.tree_cmp.proofs.Prelude.{then_rose, rose_none, first_same, still_some, Draft, first_told, counts, IsOfRow, IsSettled, blames}
 use Rattle.tree_cmp.proofs.Counted.{all_tell, first_tree}
 use Rattle.tree_cmp.proofs.Counts.{RoseTogether-none}
 use Rattle.tree_cmp.proofs.Placed.{blames_none}

@@ -1,4 +1,4 @@
-use Rattle.std.specs.Prelude.{◌==◌}
+use Rattle.tree_cmp.proofs.Prelude.{◌==◌}
 use Rattle.tree_cmp.proofs.Parts.{by_place}
 use Rattle.tree_cmp.proofs.expressions.part_end.Goals as goal
 

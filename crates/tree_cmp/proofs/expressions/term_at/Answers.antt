@@ -1,8 +1,4 @@
-use Rattle.std.proofs.Common.{arith, ◌+◌, length-drop, drop, refl, ap, sym, ◌∙◌}
-use Rattle.std.specs.Prelude.{◌==◌}
-use Rattle.std.specs.List.{slice_split}
-use Rattle.std.proofs.lemmas.List.{take_all}
-use Rattle.tree_cmp.specs.Expressions.{condition_reading, term_reading}
+use Rattle.tree_cmp.proofs.Prelude.{arith, ◌+◌, length-drop, drop, refl, ap, sym, ◌∙◌, ◌==◌, slice_split, take_all, condition_reading, term_reading}
 use Rattle.tree_cmp.proofs.Parts.{onto, reads_more}
 use Rattle.tree_cmp.proofs.expressions.term_at.Goals as goal
 

@@ -1,7 +1,4 @@
-use Rattle.std.proofs.Common.{◌≡◌, ◌+◌, length}
-use Rattle.std.specs.Prelude.{◌==◌}
-use Rattle.std.specs.List.{slice_split}
-use Rattle.tree_cmp.specs.Expressions.{term_reading}
+use Rattle.tree_cmp.proofs.Prelude.{◌≡◌, ◌+◌, length, ◌==◌, slice_split, term_reading}
 use Rattle.tree_cmp.proofs.Parts.{onto}
 use Rattle.tree_cmp.proofs.expressions.term_at.Given as goal
 

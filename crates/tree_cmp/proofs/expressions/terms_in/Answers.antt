@@ -1,8 +1,5 @@
-use Rattle.std.proofs.Common.{arith, ◌≡◌, ◌+◌, ◌++◌, ◌∷◌, [], length-drop, drop, map, refl, ap, sym, ◌∙◌}
-use Rattle.std.specs.Prelude.{◌==◌}
-use Rattle.std.specs.List.{slice_split}
-use Rattle.std.proofs.lemmas.List.{take_all, map-append}
-use Rattle.tree_cmp.specs.Expressions.{term_reading, terms_reading}
+use Rattle.tree_cmp.proofs.Prelude.{arith, ◌≡◌, ◌+◌, ◌++◌, ◌∷◌, [], length-drop, drop, map, refl, ap, sym, ◌∙◌, ◌==◌, slice_split, take_all, map-append}
+use Rattle.tree_cmp.proofs.Prelude.{term_reading, terms_reading}
 use Rattle.tree_cmp.proofs.Parts.{onto, reads_more}
 use Rattle.tree_cmp.proofs.expressions.terms_in.Goals as goal
 

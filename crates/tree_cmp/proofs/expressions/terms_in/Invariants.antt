@@ -1,7 +1,4 @@
-use Rattle.std.proofs.Common.{◌≡◌, ◌+◌, length, map}
-use Rattle.std.specs.Prelude.{◌==◌}
-use Rattle.std.specs.List.{slice_split}
-use Rattle.tree_cmp.specs.Expressions.{terms_reading}
+use Rattle.tree_cmp.proofs.Prelude.{◌≡◌, ◌+◌, length, map, ◌==◌, slice_split, terms_reading}
 use Rattle.tree_cmp.proofs.Parts.{onto}
 use Rattle.tree_cmp.proofs.expressions.terms_in.Given as goal
 

@@ -1,5 +1,4 @@
-use Rattle.std.proofs.Common.{arith, ap}
-use Rattle.std.specs.Prelude.{sum}
+use Rattle.tree_cmp.proofs.Prelude.{arith, ap, sum}
 use Rattle.tree_cmp.proofs.laws.faults_are_told.Goals as goal
 
 pub returns : goal.returns

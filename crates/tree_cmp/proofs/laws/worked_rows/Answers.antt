@@ -1,4 +1,4 @@
-use Rattle.std.proofs.Common.{refl}
+use Rattle.tree_cmp.proofs.Prelude.{refl}
 use Rattle.tree_cmp.proofs.laws.worked_rows.Goals as goal
 
 pub returns : goal.returns

@@ -1,7 +1,4 @@
-use Rattle.std.proofs.Common.{◌≡◌, length, map, IfOk, IfSome, rules, arith, subst, sym}
-use Rattle.tree_cmp.specs.Readers.{StatsTold, first_told}
-use Rattle.tree_cmp.specs.Rows.{Findings, IsComparison}
-use Rattle.tree_cmp.specs.Sides.{side}
+use Rattle.tree_cmp.proofs.Prelude.{◌≡◌, length, map, IfOk, IfSome, rules, arith, subst, sym, StatsTold, first_told, Findings, IsComparison, side}
 use Rattle.tree_cmp.proofs.Counted.{first_is, alike, taken_back}
 use Rattle.tree_cmp.proofs.lending.compare_files.Given as given
 use Rattle.tree_cmp.proofs.lending.compare_files.Goals as goal

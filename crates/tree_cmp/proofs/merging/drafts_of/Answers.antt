@@ -1,7 +1,4 @@
-use Rattle.std.proofs.Common.{ℕ, List, subst, sym, drop}
-use Rattle.entry_pages.specs.declared.entries.Entry.{Entry}
-use Rattle.tree_cmp.specs.Private.Items.{items_of}
-use Rattle.tree_cmp.specs.Private.Steps.{Ascend}
+use Rattle.tree_cmp.proofs.Prelude.{ℕ, List, subst, sym, drop, Entry, items_of, Ascend}
 use Rattle.tree_cmp.proofs.Sided.{items_ascend}
 use Rattle.tree_cmp.proofs.merging.drafts_of.Goals as goal
 

@@ -1,6 +1,4 @@
-use Rattle.std.proofs.Common.{rules, ◌≡◌, ◌||◌, true, is_some, ◌∙◌, ap, subst, ◌++◌}
-use Rattle.tree_cmp.specs.Private.Items.{links_at, AreDrafts}
-use Rattle.tree_cmp.specs.Private.Steps.{ahead, left_of, path_of, side_of, Takes}
+use Rattle.tree_cmp.proofs.Prelude.{rules, ◌≡◌, ◌||◌, true, is_some, ◌∙◌, ap, subst, ◌++◌, links_at, AreDrafts, ahead, left_of, path_of, side_of, Takes}
 use Rattle.tree_cmp.proofs.Taken.{took, ready_next, goes_on, ended}
 use Rattle.tree_cmp.proofs.Linked.{popped_link, row_links, whole_ascends}
 use Rattle.tree_cmp.proofs.merging.merged.Goals as goal

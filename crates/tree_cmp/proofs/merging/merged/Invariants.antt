@@ -1,7 +1,4 @@
-use Rattle.std.proofs.Common.{◌≡◌, ◌+◌, ◌++◌, List, length, None}
-use Rattle.tree_cmp.specs.declared.drafts.Draft.{Draft}
-use Rattle.tree_cmp.specs.Private.Items.{links_at}
-use Rattle.tree_cmp.specs.Private.Steps.{HasSoundEnds, left_of, side_of, Ready, From}
+use Rattle.tree_cmp.proofs.Prelude.{◌≡◌, ◌+◌, ◌++◌, List, length, None, Draft, links_at, HasSoundEnds, left_of, side_of, Ready, From}
 use Rattle.tree_cmp.proofs.merging.merged.Given as goal
 
 abbrev pub invariant-loop-right : goal.invariant-loop-right

@@ -1,8 +1,4 @@
-use Rattle.std.proofs.Common.{rules, arith, ◌≡◌, ◌≤◌, ◌<◌, ◌+◌, ◌-◌, length, IfSome, subst, ◌∙◌}
-use Rattle.std.proofs.lemmas.Grind.{common_steps}
-use Rattle.outside.specs.Tree.{Reads}
-use Rattle.tree_cmp.specs.Readers.{ShowsWhole}
-use Rattle.tree_cmp.specs.Filling.{ShowsMissing, missing}
+use Rattle.tree_cmp.proofs.Prelude.{rules, arith, ◌≡◌, ◌≤◌, ◌<◌, ◌+◌, ◌-◌, length, IfSome, subst, ◌∙◌, common_steps, Reads, ShowsWhole, ShowsMissing, missing}
 use Rattle.tree_cmp.proofs.Filling.{filled}
 use Rattle.tree_cmp.proofs.Shown.{refused, ended, gave}
 use Rattle.tree_cmp.proofs.reading.fill.Goals as goal

@@ -1,8 +1,4 @@
-use Rattle.std.proofs.Common.{◌≡◌, ◌+◌, ◌-◌, ◌<◌, ◌≤◌, length, take, IfSome}
-use Rattle.std.specs.FinMap.{get}
-use Rattle.outside.specs.Count.{RoseBy}
-use Rattle.tree_cmp.specs.Readers.{ShowsWhole}
-use Rattle.tree_cmp.specs.Filling.{Fills}
+use Rattle.tree_cmp.proofs.Prelude.{◌≡◌, ◌+◌, ◌-◌, ◌<◌, ◌≤◌, length, take, IfSome, get, RoseBy, ShowsWhole, Fills}
 use Rattle.tree_cmp.proofs.reading.fill.Given as goal
 
 abbrev pub invariant-loop-done : goal.invariant-loop-done

@@ -1,6 +1,4 @@
-use Rattle.std.proofs.Common.{arith, ◌≡◌, true, subst, sym, ◌∙◌, IfSome}
-use Rattle.std.specs.FinMap.{get}
-use Rattle.tree_cmp.specs.Private.Reading.{PieceTold, goes_on}
+use Rattle.tree_cmp.proofs.Prelude.{arith, ◌≡◌, true, subst, sym, ◌∙◌, IfSome, get, PieceTold, goes_on}
 use Rattle.tree_cmp.proofs.Pieces.{alike_more, all_alike, more_count}
 use Rattle.tree_cmp.proofs.reading.same_bytes.Goals as goal
 

@@ -1,10 +1,5 @@
-use Rattle.std.proofs.Common.{rules, arith, ◌<◌, ◌-◌, length, sym, refl, ◌∙◌}
-use Rattle.std.proofs.Common.{length-set, get_or-set_other}
-use Rattle.shared_reads.specs.Kept.{IsKept}
-use Rattle.shared_reads.proofs.Counted.{kept_then, kept_less, kept_first}
-use Rattle.shared_reads.proofs.Taken.{holds_kept, holds_cut}
-use Rattle.tree_cmp.specs.Private.Reading.{counts}
-use Rattle.tree_cmp.specs.Private.Sharing.{IsOf, IsOfRow, IsSettled}
+use Rattle.tree_cmp.proofs.Prelude.{rules, arith, ◌<◌, ◌-◌, length, sym, refl, ◌∙◌, length-set, get_or-set_other, IsKept, kept_then, kept_less, kept_first}
+use Rattle.tree_cmp.proofs.Prelude.{holds_kept, holds_cut, counts, IsOf, IsOfRow, IsSettled}
 use Rattle.tree_cmp.proofs.Placed.{set_unsettled, set_settled, set_counted, blames_none, unread_at, kept_at, if_some, as_of}
 use Rattle.tree_cmp.proofs.settling.settle.Goals as goal
 

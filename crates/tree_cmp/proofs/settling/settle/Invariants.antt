@@ -1,10 +1,5 @@
-use Rattle.std.proofs.Common.{◌≡◌, ℕ, ◌+◌, ◌<◌, ◌≤◌, map, length, get_or}
-use Rattle.shared_reads.specs.Counts.{KeepsUp}
-use Rattle.shared_reads.specs.Desks.{HasRoom}
-use Rattle.shared_reads.specs.Kept.{Holds, held}
-use Rattle.tree_cmp.specs.declared.drafts.Draft.{Draft}
-use Rattle.tree_cmp.specs.Private.Reading.{counts}
-use Rattle.tree_cmp.specs.Private.Sharing.{IsOfRow, IsSettled, unsettled, blames}
+use Rattle.tree_cmp.proofs.Prelude.{◌≡◌, ℕ, ◌+◌, ◌<◌, ◌≤◌, map, length, get_or, KeepsUp, HasRoom, Holds, held, Draft, counts, IsOfRow, IsSettled, unsettled}
+use Rattle.tree_cmp.proofs.Prelude.{blames}
 use Rattle.tree_cmp.proofs.settling.settle.Given as goal
 
 abbrev pub invariant-loop-place : goal.invariant-loop-place

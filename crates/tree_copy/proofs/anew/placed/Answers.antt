@@ -1,9 +1,5 @@
-use Rattle.std.proofs.Common.{◌∙◌, inl, refl, subst, sym, IfSome}
-use Rattle.std.specs.FinMap.{get, insert}
-use Rattle.outside.specs.Writes.{make_refusal}
-use Rattle.level_work.proofs.Working.{both_told}
-use Rattle.tree_copy.specs.PrivateActs.{IsPlaced, IsReplaced}
-use Rattle.tree_copy.specs.PrivateNodes.{Looked, call_of, is_old_of, kind_of, node_of}
+use Rattle.tree_copy.proofs.Prelude.{◌∙◌, inl, refl, subst, sym, IfSome, get, insert, make_refusal, both_told, IsPlaced, IsReplaced, Looked, call_of, is_old_of}
+use Rattle.tree_copy.proofs.Prelude.{kind_of, node_of}
 use Rattle.tree_copy.proofs.Places.{StillTaken, left_there, placed_new, replaced_there}
 use Rattle.tree_copy.proofs.Puts.{answered, free, taken, was_taken}
 use Rattle.tree_copy.proofs.Shown.{left_is, mapped_ok, not_taken, refused, refused_is, replaced_is, written}

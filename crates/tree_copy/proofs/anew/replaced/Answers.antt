@@ -1,8 +1,6 @@
-use Rattle.std.proofs.Common.{inl, inr, refl, subst, sym, IsTrue}
-use Rattle.std.proofs.lemmas.Bool.{false≢true}
+use Rattle.tree_copy.proofs.Prelude.{inl, inr, refl, subst, sym, false≢true, is_top, may_change, call_of, node_of}
+use Rattle.std.proofs.Common.{IsTrue}
 use Rattle.outside.specs.Asked as asked
-use Rattle.outside.specs.Writes.{is_top, may_change}
-use Rattle.tree_copy.specs.PrivateNodes.{call_of, node_of}
 use Rattle.tree_copy.proofs.Places.{removed_only, replaced_done, replaced_lost}
 use Rattle.tree_copy.proofs.Shown.{mapped_ok, refused, written}
 use Rattle.tree_copy.proofs.anew.replaced.Goals as goal

@@ -1,17 +1,11 @@
-use Rattle.std.proofs.Common.{◌∙◌, ap, sym, subst, map, IfSome}
-use Rattle.std.specs.List.{count_by}
-use Rattle.outside.specs.Count.{RoseBy}
-use Rattle.outside.specs.Parts.{IsTreeIn}
-use Rattle.level_work.specs.Counts.{is_failed, is_done}
-use Rattle.tree_copy.specs.Causes.{HaveCauses}
-use Rattle.tree_copy.specs.Copying.{AreEarly, Copied, bytes_copied}
+use Rattle.tree_copy.proofs.Prelude.{◌∙◌, ap, sym, subst, map, IfSome, count_by, RoseBy, IsTreeIn, is_failed, is_done, HaveCauses, AreEarly, Copied}
+use Rattle.tree_copy.proofs.Prelude.{bytes_copied, if_ok}
 use Rattle.tree_copy.proofs.Reported.{Run, acted_rest, all_made, all_run, all_bytes, both_ok, causes, dirs, done_rows, early, fit, fitted}
 use Rattle.tree_copy.proofs.Reported.{marked, marks_len, rest, rose}
 use Rattle.tree_copy.proofs.Reported.{row_paths, stand, told}
 use Rattle.tree_copy.proofs.copying.copy.Given as given
 use Rattle.tree_copy.proofs.copying.copy.Goals as goal
 use Rattle.tree_copy.proofs.copying.copy.Goals.{After-settle}
-use Rattle.level_work.proofs.Hands.{if_ok}
 
 pub work-requires-clause-items : goal.work-requires-clause-items
 work-requires-clause-items g c κs within = fit

@@ -1,8 +1,7 @@
-use Rattle.std.proofs.Common.{◌∙◌, refl, sym, subst, IfOk, IfSome}
-use Rattle.entry_pages.specs.Entries.{size_by}
+use Rattle.tree_copy.proofs.Prelude.{◌∙◌, refl, sym, subst, IfSome, size_by, IsFilled, ShowsFilled}
+use Rattle.std.proofs.Common.{IfOk}
 use Rattle.outside.specs.Asked as asked
 use Rattle.outside.specs.declared.trees.Kind.TheVariants as kind
-use Rattle.tree_copy.specs.PrivateActs.{IsFilled, ShowsFilled}
 use Rattle.tree_copy.proofs.Copiers.{file_filled, file_refused}
 use Rattle.tree_copy.proofs.Shown.{file_is_filled, mapped_ok, not_done, not_placed, was_made}
 use Rattle.tree_copy.proofs.filling.file_made.Goals as goal

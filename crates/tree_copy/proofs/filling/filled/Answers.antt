@@ -1,8 +1,5 @@
-use Rattle.std.proofs.Common.{rules, ◌+◌, ◌≤◌, ap, inr, subst, ◌∙◌, arith, length, take, drop, IfSome}
-use Rattle.std.proofs.lemmas.List.{length-take-le, take-append-le}
+use Rattle.tree_copy.proofs.Prelude.{rules, ◌+◌, ◌≤◌, ap, inr, subst, ◌∙◌, arith, length, take, drop, IfSome, length-take-le, take-append-le, Reads, WasWritten}
 use Rattle.outside.specs.Asked as asked
-use Rattle.outside.specs.Tree.{Reads}
-use Rattle.tree_copy.specs.Causes.{WasWritten}
 use Rattle.tree_copy.proofs.Fills.{Wrote, file_more, others_more, holds_more}
 use Rattle.tree_copy.proofs.Shown.{written}
 use Rattle.tree_copy.proofs.filling.filled.Goals as goal

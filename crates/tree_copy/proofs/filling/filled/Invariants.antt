@@ -1,10 +1,4 @@
-use Rattle.std.proofs.Common.{◌-◌, ◌≡◌, ◌≤◌, ℕ, List, Option, IfSome, length, is_some}
-use Rattle.outside.specs.Count.{RoseBy}
-use Rattle.outside.specs.Tree.{Files}
-use Rattle.outside.specs.Writes.{SameBut}
-use Rattle.tree_copy.specs.Causes.{EndsAt}
-use Rattle.tree_copy.specs.PrivateActs.{HasFile}
-use Rattle.tree_copy.specs.PrivateDeeds.{Holds}
+use Rattle.tree_copy.proofs.Prelude.{◌-◌, ◌≡◌, ◌≤◌, ℕ, List, Option, IfSome, length, is_some, RoseBy, Files, SameBut, EndsAt, HasFile, Holds}
 use Rattle.tree_copy.proofs.filling.filled.Given as goal
 
 -- what is so of the part's trees, at the start and now, and of the reader's

@@ -1,6 +1,5 @@
-use Rattle.std.proofs.Common.{inl, inr, refl, subst}
+use Rattle.tree_copy.proofs.Prelude.{inl, inr, refl, subst, LookMeans}
 use Rattle.outside.specs.declared.trees.Kind.TheVariants as kind
-use Rattle.tree_copy.specs.Causes.{LookMeans}
 use Rattle.tree_copy.proofs.linking.spared.Goals as goal
 
 pub returns-in-Done-clause-shown : goal.returns-in-Done-clause-shown

@@ -1,8 +1,6 @@
-use Rattle.std.proofs.Common.{◌∙◌, inl, refl, sym}
-use Rattle.std.specs.FinMap.{get, insert}
+use Rattle.tree_copy.proofs.Prelude.{◌∙◌, inl, refl, sym, get, insert, empty_dir, make_refusal}
 use Rattle.outside.specs.Asked as asked
 use Rattle.outside.specs.declared.trees.Kind.TheVariants as kind
-use Rattle.outside.specs.Writes.{empty_dir, make_refusal}
 use Rattle.level_work.specs.declared.items.Fate.TheVariants as fate
 use Rattle.tree_copy.proofs.Makes.{made, kept}
 use Rattle.tree_copy.proofs.Puts.{answered, was_taken, free, taken}

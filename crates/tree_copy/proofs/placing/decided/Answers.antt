@@ -1,5 +1,4 @@
-use Rattle.std.proofs.Common.{◌≡◌, ◌||◌, ◌++◌, true, map}
-use Rattle.tree_copy.specs.Placing.{has_targets, overlap, pairs_in, placed}
+use Rattle.tree_copy.proofs.Prelude.{◌≡◌, ◌||◌, ◌++◌, true, map, has_targets, overlap, pairs_in, placed}
 use Rattle.tree_copy.proofs.Due.{due_of, due_with, told_by, why_by, of_some, of_match}
 use Rattle.tree_copy.proofs.Overlaps.{target}
 use Rattle.tree_copy.proofs.placing.decided.Goals as goal

@@ -1,5 +1,4 @@
-use Rattle.std.proofs.Common.{◌≡◌, length}
-use Rattle.tree_copy.specs.Placing.{overlap}
+use Rattle.tree_copy.proofs.Prelude.{◌≡◌, length, overlap}
 use Rattle.tree_copy.proofs.placing.overlap.Given as goal
 
 -- the paths that were passed overlap no other

@@ -1,9 +1,4 @@
-use Rattle.std.proofs.Common.{◌≡◌, ◌≤◌, ◌||◌, true, length, subst, arith}
-use Rattle.std.specs.Prelude.{◌==◌}
-use Rattle.std.specs.List.{All}
-use Rattle.std.proofs.lemmas.Bool.Decides.{nat_tests}
-use Rattle.std.proofs.lemmas.List.{take_all}
-use Rattle.tree_copy.specs.Placing.{target_in}
+use Rattle.tree_copy.proofs.Prelude.{◌≡◌, ◌≤◌, ◌||◌, true, length, subst, arith, ◌==◌, All, nat_tests, take_all, target_in}
 use Rattle.tree_copy.proofs.Due.{pairs_more, short_more, have_targets}
 use Rattle.tree_copy.proofs.placing.paired.Goals.{else-not-in_dir-via-then-not-in_dir+else-sources-ne1, else-not-in_dir-via-else-not-in_dir}
 use Rattle.tree_copy.proofs.placing.paired.Goals as goal

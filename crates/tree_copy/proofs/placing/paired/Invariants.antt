@@ -1,6 +1,4 @@
-use Rattle.std.proofs.Common.{◌≡◌, ◌≤◌, length, take}
-use Rattle.std.specs.List.{All}
-use Rattle.tree_copy.specs.Placing.{pairs_in, target_in}
+use Rattle.tree_copy.proofs.Prelude.{◌≡◌, ◌≤◌, length, take, All, pairs_in, target_in}
 use Rattle.tree_copy.proofs.placing.paired.Given as goal
 
 -- the sources that were passed have their targets

@@ -1,6 +1,4 @@
-use Rattle.std.proofs.Common.{sym, ap, ◌∙◌}
-use Rattle.path_text.specs.Path.{is_name}
-use Rattle.path_text.proofs.Within.{not_one}
+use Rattle.tree_copy.proofs.Prelude.{sym, ap, ◌∙◌, is_name, not_one}
 use Rattle.tree_copy.proofs.placing.target.Goals as goal
 
 pub join-requires : goal.join-requires

@@ -1,5 +1,4 @@
-use Rattle.std.proofs.Common.{length, ◌-◌, ◌∙◌, sym, refl, ap, ◌||◌, map, take, drop}
-use Rattle.tree_copy.specs.Placing.{overlap}
+use Rattle.tree_copy.proofs.Prelude.{length, ◌-◌, ◌∙◌, sym, refl, ap, ◌||◌, map, take, drop, overlap}
 use Rattle.tree_copy.proofs.Overlaps.{target, targets_more}
 use Rattle.tree_copy.proofs.placing.targets_overlap.Goals as goal
 

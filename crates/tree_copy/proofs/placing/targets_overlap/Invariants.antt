@@ -1,5 +1,4 @@
-use Rattle.std.proofs.Common.{◌≡◌, length, map}
-use Rattle.tree_copy.specs.Placing.{overlap}
+use Rattle.tree_copy.proofs.Prelude.{◌≡◌, length, map, overlap}
 use Rattle.tree_copy.proofs.placing.targets_overlap.Given as goal
 
 -- the targets that were passed overlap no other

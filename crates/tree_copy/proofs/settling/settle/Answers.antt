@@ -1,12 +1,5 @@
-use Rattle.std.proofs.Common.{◌≡◌, ◌∙◌, ◌+◌, ◌<◌, ap, arith, length, drop, sym, not, false, subst, get_or, map, ◌∷◌, ◌++◌, []}
-use Rattle.std.proofs.Common.{length-append, Some, slice_get}
-use Rattle.std.proofs.lemmas.List.{length-map}
-use Rattle.std.specs.Vec.Iter.{into_iter_items}
-use Rattle.flat_list.specs.Spelling.{paths}
-use Rattle.std.proofs.lemmas.Option.{slice_get-get_or}
-use Rattle.std.specs.List.{zip}
-use Rattle.tree_copy.specs.Copying.{treated}
-use Rattle.tree_copy.specs.PrivateSettling.{fitting}
+use Rattle.tree_copy.proofs.Prelude.{◌≡◌, ◌∙◌, ◌+◌, ◌<◌, ap, arith, length, drop, sym, not, false, subst, get_or, map, ◌∷◌, ◌++◌, [], length-append, Some}
+use Rattle.tree_copy.proofs.Prelude.{slice_get, length-map, into_iter_items, paths, slice_get-get_or, zip, treated, fitting}
 use Rattle.tree_copy.proofs.Tallies.{Tallied, at_end, both_parts, fate_left, firsts, row_more, seconds, IsFate, IsNoted, few_more, has_mark, left_skipped}
 use Rattle.tree_copy.proofs.Tallies.{moved_on, path_step, some_left, next_of, passed, skipped}
 use Rattle.tree_copy.proofs.settling.settle.Goals as goal

@@ -1,8 +1,4 @@
-use Rattle.std.proofs.Common.{◌≡◌, ◌-◌, ◌≤◌, length, drop, map}
-use Rattle.std.specs.Vec.Iter.{into_iter_items, into_iter_len}
-use Rattle.flat_list.specs.Spelling.{paths}
-use Rattle.tree_copy.specs.Copying.{treated}
-use Rattle.tree_copy.specs.PrivateSettling.{fitting}
+use Rattle.tree_copy.proofs.Prelude.{◌≡◌, ◌-◌, ◌≤◌, length, drop, map, into_iter_items, into_iter_len, paths, treated, fitting}
 use Rattle.tree_copy.proofs.Tallies.{Tallied, firsts, seconds}
 use Rattle.tree_copy.proofs.settling.settle.Given as goal
 

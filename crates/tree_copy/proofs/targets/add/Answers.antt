@@ -1,4 +1,4 @@
-use Rattle.std.proofs.Common.{◌∙◌, ◌++◌, ◌∷◌, [], ap, sym, append-nil}
+use Rattle.tree_copy.proofs.Prelude.{◌∙◌, ◌++◌, ◌∷◌, [], ap, sym, append-nil}
 use Rattle.tree_copy.proofs.Items.{Added, added_by, found, items_at}
 use Rattle.tree_copy.proofs.targets.add.Goals as goal
 use Rattle.tree_copy.proofs.targets.add.Goals.{In_ok-target}

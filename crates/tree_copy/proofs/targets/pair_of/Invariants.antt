@@ -1,6 +1,4 @@
-use Rattle.std.proofs.Common.{◌≡◌, false, take}
-use Rattle.std.specs.List.{list_any}
-use Rattle.path_text.specs.Order.{is_within}
+use Rattle.tree_copy.proofs.Prelude.{◌≡◌, false, take, list_any, is_within}
 use Rattle.tree_copy.proofs.targets.pair_of.Given as goal
 
 -- the path is within no source so far

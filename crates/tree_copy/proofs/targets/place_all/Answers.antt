@@ -1,4 +1,4 @@
-use Rattle.std.proofs.Common.{◌∙◌, ◌-◌, ap}
+use Rattle.tree_copy.proofs.Prelude.{◌∙◌, ◌-◌, ap}
 use Rattle.tree_copy.proofs.Items.{source_of}
 use Rattle.tree_copy.proofs.targets.place_all.Goals as goal
 

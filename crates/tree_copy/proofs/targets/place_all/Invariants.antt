@@ -1,8 +1,4 @@
-use Rattle.std.proofs.Common.{◌≡◌, ◌-◌, ◌≤◌, None, length, map, take}
-use Rattle.std.specs.List.{All}
-use Rattle.path_text.specs.Path.{refusal}
-use Rattle.tree_copy.specs.Copying.{treated}
-use Rattle.tree_copy.specs.PrivateSettling.{has_room, items_of}
+use Rattle.tree_copy.proofs.Prelude.{◌≡◌, ◌-◌, ◌≤◌, None, length, map, take, All, refusal, treated, has_room, items_of}
 use Rattle.tree_copy.proofs.targets.place_all.Given as goal
 
 -- the items of the entries that were passed

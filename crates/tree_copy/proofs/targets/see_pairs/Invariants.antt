@@ -1,6 +1,4 @@
-use Rattle.std.proofs.Common.{take}
-use Rattle.std.specs.List.{All}
-use Rattle.tree_copy.specs.Placing.{IsPair}
+use Rattle.tree_copy.proofs.Prelude.{take, All, IsPair}
 use Rattle.tree_copy.proofs.targets.see_pairs.Given as goal
 
 -- the pairs that were seen

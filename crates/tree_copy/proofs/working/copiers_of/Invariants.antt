@@ -1,5 +1,4 @@
-use Rattle.std.proofs.Common.{◌≡◌, ◌-◌, ◌≤◌, length}
-use Rattle.std.specs.List.{All, sum_by}
+use Rattle.tree_copy.proofs.Prelude.{◌≡◌, ◌-◌, ◌≤◌, length, All, sum_by}
 use Rattle.tree_copy.proofs.working.copiers_of.Given as goal
 
 -- the copiers so far

@@ -1,9 +1,6 @@
-use Rattle.std.proofs.Common.{◌^◌, ◌<◌, sym, arith, rules}
-use Rattle.std.specs.List.{count_by}
-use Rattle.level_work.specs.Counts.{is_failed}
+use Rattle.tree_copy.proofs.Prelude.{◌^◌, ◌<◌, sym, arith, rules, count_by, is_failed, if_ok}
 use Rattle.tree_copy.proofs.Readers.{acted_by, alike, all_show, dirs_by, rose_by}
 use Rattle.tree_copy.proofs.working.work.Goals as goal
-use Rattle.level_work.proofs.Hands.{if_ok}
 
 pub on_levels-outcome-requires-clause-alike : goal.on_levels-outcome-requires-clause-alike
 on_levels-outcome-requires-clause-alike g c κs within = alike _ (g.G.Plot.tree c.args.ground.now) c.in_ok-copiers.copiers.items c.in_ok-copiers.ensures.told

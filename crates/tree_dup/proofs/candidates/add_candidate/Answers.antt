@@ -1,5 +1,4 @@
-use Rattle.std.proofs.Common.{List, [], ◌∷◌, ◌++◌, sym, ap, ◌∙◌}
-use Rattle.tree_dup.specs.declared.runs.File.{File}
+use Rattle.tree_dup.proofs.Prelude.{List, [], ◌∷◌, ◌++◌, sym, ap, ◌∙◌, File}
 use Rattle.tree_dup.proofs.Entered.{passed_by, entered, alike_more}
 use Rattle.tree_dup.proofs.candidates.add_candidate.Goals as goal
 

@@ -1,5 +1,4 @@
-use Rattle.std.proofs.Common.{rules, arith, length, sym, ap, subst}
-use Rattle.tree_dup.specs.Private.Sifting.{AreListed}
+use Rattle.tree_dup.proofs.Prelude.{rules, arith, length, sym, ap, subst, AreListed}
 use Rattle.tree_dup.proofs.Entered.{entry_at, entry_last, first_listed}
 use Rattle.tree_dup.proofs.candidates.candidates.Goals as goal
 

@@ -1,8 +1,4 @@
-use Rattle.std.proofs.Common.{◌≡◌, ◌-◌, ◌≤◌, length, map, Option, IfSome}
-use Rattle.outside.specs.Tree.{Files}
-use Rattle.tree_cmp.specs.Readers.{StatsTold}
-use Rattle.tree_dup.specs.Private.Running.{still}
-use Rattle.tree_dup.specs.Private.Sifting.{AreListed}
+use Rattle.tree_dup.proofs.Prelude.{◌≡◌, ◌-◌, ◌≤◌, length, map, Option, IfSome, Files, StatsTold, still, AreListed}
 use Rattle.tree_dup.proofs.candidates.candidates.Given as goal
 
 abbrev pub invariant-loop-cursor : goal.invariant-loop-cursor

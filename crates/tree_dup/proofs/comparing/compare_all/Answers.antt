@@ -1,4 +1,4 @@
-use Rattle.std.proofs.Common.{rules, arith}
+use Rattle.tree_dup.proofs.Prelude.{rules, arith}
 use Rattle.tree_dup.proofs.Gone.{went_nowhere, went_on}
 use Rattle.tree_dup.proofs.Classes.{same_length}
 use Rattle.tree_dup.proofs.Stood.{sizes_still, divided_first, divided_more, divided_last}

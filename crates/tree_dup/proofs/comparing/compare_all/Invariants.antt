@@ -1,6 +1,4 @@
-use Rattle.std.proofs.Common.{◌≡◌, ◌-◌, ◌<◌, ◌≤◌, false, length, get_or, IfSome, All}
-use Rattle.tree_dup.specs.declared.runs.File.{File}
-use Rattle.tree_dup.specs.Private.Running.{Went, IsThere, AreDivided, is_other}
+use Rattle.tree_dup.proofs.Prelude.{◌≡◌, ◌-◌, ◌<◌, ◌≤◌, false, length, get_or, IfSome, All, File, Went, IsThere, AreDivided, is_other}
 use Rattle.tree_dup.proofs.comparing.compare_all.Given as goal
 
 abbrev pub invariant-loop-at : goal.invariant-loop-at

@@ -1,7 +1,4 @@
-use Rattle.std.proofs.Common.{rules, arith, ◌≡◌, ◌+◌, ◌<◌, false, length, get_or, set, ap, ◌∙◌}
-use Rattle.std.proofs.lemmas.List.{get_or_default}
-use Rattle.tree_dup.specs.declared.runs.File.{File}
-use Rattle.tree_dup.specs.Private.Running.{is_alike, is_other}
+use Rattle.tree_dup.proofs.Prelude.{rules, arith, ◌≡◌, ◌+◌, ◌<◌, false, length, get_or, set, ap, ◌∙◌, get_or_default, File, is_alike, is_other}
 use Rattle.tree_dup.proofs.Gone.{went_set}
 use Rattle.tree_dup.proofs.Stood.{inside_still, half_told_none, half_told_skip, half_told_more, half_told_all, first_set, length_set}
 use Rattle.tree_dup.proofs.comparing.compare_piece.Goals as goal

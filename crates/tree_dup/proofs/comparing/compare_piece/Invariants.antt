@@ -1,6 +1,4 @@
-use Rattle.std.proofs.Common.{◌≡◌, ◌<◌, false, length, get_or}
-use Rattle.tree_dup.specs.declared.runs.File.{File}
-use Rattle.tree_dup.specs.Private.Running.{Went, is_alike, is_other}
+use Rattle.tree_dup.proofs.Prelude.{◌≡◌, ◌<◌, false, length, get_or, File, Went, is_alike, is_other}
 use Rattle.tree_dup.proofs.Stood.{HalfTold}
 use Rattle.tree_dup.proofs.comparing.compare_piece.Given as goal
 

@@ -1,10 +1,8 @@
-use Rattle.std.proofs.Common.{arith, ◌≡◌, ◌++◌, ◌<◌, false, length, map, take, drop, get_or, ap, sym, subst, List, All, IfSome}
-use Rattle.tree_dup.specs.declared.runs.File.{File}
-use Rattle.tree_dup.specs.Private.Running.{Went, IsThere, AreSettled, is_other, still}
+use Rattle.tree_dup.proofs.Prelude.{arith, ◌≡◌, ◌++◌, ◌<◌, false, length, map, take, drop, get_or, ap, sym, subst, List, All, IfSome, File, Went, IsThere}
+use Rattle.tree_dup.proofs.Prelude.{AreSettled, is_other, still, written}
 use Rattle.tree_dup.proofs.comparing.compare_run.Given as given
 use Rattle.tree_dup.proofs.comparing.compare_run.Goals as goal
 use Rattle.tree_dup.proofs.comparing.compare_run.Goals.{After-compare_all}
-use Rattle.shared_reads.proofs.Hired.{written}
 
 pub compare_all-requires-clause-alike : goal.compare_all-requires-clause-alike
 compare_all-requires-clause-alike g c = subst (λ (fs : List File). map still fs ≡ fs) (sym c.deref_mut.ensures.value) c.requires.alike

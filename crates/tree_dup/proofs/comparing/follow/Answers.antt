@@ -1,4 +1,4 @@
-use Rattle.std.proofs.Common.{rules}
+use Rattle.tree_dup.proofs.Prelude.{rules}
 use Rattle.tree_dup.proofs.Gone.{moved_none, moved_to}
 use Rattle.tree_dup.proofs.Stood.{follows, idles}
 use Rattle.tree_dup.proofs.comparing.follow.Goals as goal

@@ -1,6 +1,4 @@
-use Rattle.std.proofs.Common.{rules, ◌+◌, refl, ap, Err}
-use Rattle.std.proofs.lemmas.Bool.{false≢true}
-use Rattle.tree_dup.specs.declared.runs.Standing.TheVariants.{Missed}
+use Rattle.tree_dup.proofs.Prelude.{rules, ◌+◌, refl, ap, Err, false≢true, Missed}
 use Rattle.tree_dup.proofs.Gone.{moved_none, moved_read, moved_to, rose_keeps}
 use Rattle.tree_dup.proofs.Parted.{if_any}
 use Rattle.tree_dup.proofs.Stood.{leads, leads_not, missed_stands}

@@ -1,7 +1,5 @@
-use Rattle.std.proofs.Common.{rules, arith, ◌≡◌, ◌+◌, ◌<◌, false, length, get_or, set, ap, ◌∙◌}
-use Rattle.std.proofs.lemmas.List.{get_or_default, get_or-set_same}
-use Rattle.tree_dup.specs.declared.runs.File.{File}
-use Rattle.tree_dup.specs.Private.Running.{Sought, is_alike, is_other}
+use Rattle.tree_dup.proofs.Prelude.{rules, arith, ◌≡◌, ◌+◌, ◌<◌, false, length, get_or, set, ap, ◌∙◌, get_or_default, get_or-set_same, File, Sought, is_alike}
+use Rattle.tree_dup.proofs.Prelude.{is_other}
 use Rattle.tree_dup.proofs.Gone.{went_nowhere, went_set}
 use Rattle.tree_dup.proofs.Parted.{if_any}
 use Rattle.tree_dup.proofs.Stood.{inside_still, lead_told, lead_filled, first_set, length_set}

@@ -1,6 +1,4 @@
-use Rattle.std.proofs.Common.{◌≡◌, ◌<◌, false, length, get_or}
-use Rattle.tree_dup.specs.declared.runs.File.{File}
-use Rattle.tree_dup.specs.Private.Running.{Sought, is_alike}
+use Rattle.tree_dup.proofs.Prelude.{◌≡◌, ◌<◌, false, length, get_or, File, Sought, is_alike}
 use Rattle.tree_dup.proofs.comparing.next_lead.Given as goal
 
 abbrev pub invariant-loop-k : goal.invariant-loop-k

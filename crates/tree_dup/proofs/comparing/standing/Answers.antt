@@ -1,4 +1,4 @@
-use Rattle.std.proofs.Common.{rules, ap, Err}
+use Rattle.tree_dup.proofs.Prelude.{rules, ap, Err}
 use Rattle.tree_dup.proofs.Gone.{rose_keeps}
 use Rattle.tree_dup.proofs.Stood.{piece_told, missed_told, whole_counted, whole_shows}
 use Rattle.tree_dup.proofs.comparing.standing.Goals as goal

@@ -1,10 +1,7 @@
-use Rattle.std.proofs.Common.{rules, arith, ◌≡◌, [], ◌∷◌, ◌++◌, ap, sym, subst, ◌∙◌, length, List, append_assoc, append-nil}
-use Rattle.std.specs.Vec.Iter.{into_iter_items}
-use Rattle.tree_dup.specs.declared.runs.File.{File}
-use Rattle.tree_dup.specs.Private.Dealing.{AreDealt}
+use Rattle.tree_dup.proofs.Prelude.{rules, arith, ◌≡◌, [], ◌∷◌, ◌++◌, ap, sym, subst, ◌∙◌, length, List, append_assoc, append-nil, into_iter_items, File}
+use Rattle.tree_dup.proofs.Prelude.{AreDealt, nil_from_length}
 use Rattle.tree_dup.proofs.Dealt.{dealt_first}
 use Rattle.tree_dup.proofs.dealing.deal.Goals as goal
-use Rattle.std.proofs.lemmas.List.{nil_from_length}
 
 pub loop-file-init : goal.loop-file-init
 loop-file-init c = record {

@@ -1,6 +1,4 @@
-use Rattle.std.proofs.Common.{◌≡◌, ◌++◌, length}
-use Rattle.std.specs.Vec.Iter.{into_iter_items, into_iter_len}
-use Rattle.tree_dup.specs.Private.Dealing.{AreDealt}
+use Rattle.tree_dup.proofs.Prelude.{◌≡◌, ◌++◌, length, into_iter_items, into_iter_len, AreDealt}
 use Rattle.tree_dup.proofs.dealing.deal.Given as goal
 
 abbrev pub invariant-loop-file : goal.invariant-loop-file

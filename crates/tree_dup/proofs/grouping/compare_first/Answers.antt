@@ -1,7 +1,5 @@
-use Rattle.std.specs.Prelude.{slice_index_or}
-use Rattle.std.proofs.Common.{rules, ◌≡◌, length, map, ap, sym, subst, refl, ◌∙◌, IfSome, All}
-use Rattle.shared_reads.specs.Kept.{faults_of}
-use Rattle.tree_dup.specs.Private.Running.{AreStandings, StandFor, Shows, IsThere, AreSettled, comparison_faults, faults_in, failures, is_other, still}
+use Rattle.tree_dup.proofs.Prelude.{slice_index_or, rules, ◌≡◌, length, map, ap, sym, subst, refl, ◌∙◌, IfSome, All, faults_of, AreStandings, StandFor, Shows}
+use Rattle.tree_dup.proofs.Prelude.{IsThere, AreSettled, comparison_faults, faults_in, failures, is_other, still}
 use Rattle.tree_dup.proofs.Classes.{none_fails}
 use Rattle.tree_dup.proofs.Compared.{same_run, faults_are, sizes_none}
 use Rattle.tree_dup.proofs.Counted.{kept_none, told_before}

@@ -1,7 +1,4 @@
-use Rattle.std.proofs.Common.{arith, ap, sym, subst, IfSome}
-use Rattle.shared_reads.specs.Kept.{faults_of}
-use Rattle.tree_dup.specs.Private.Running.{StandFor, comparison_faults}
-use Rattle.shared_reads.proofs.Counted.{kept_less, kept_rose}
+use Rattle.tree_dup.proofs.Prelude.{arith, ap, sym, subst, IfSome, faults_of, StandFor, comparison_faults, kept_less, kept_rose}
 use Rattle.tree_dup.proofs.Counted.{read_more, read_none}
 use Rattle.tree_dup.proofs.Sifted.{sifted_left, sifted_as}
 use Rattle.tree_dup.proofs.grouping.divide.Goals as goal

@@ -1,11 +1,5 @@
-use Rattle.std.proofs.Common.{◌≡◌, List, ◌∷◌, length, map, All, IfSome}
-use Rattle.entry_pages.specs.declared.entries.Entry.{Entry}
-use Rattle.tree_dup.specs.declared.runs.File.{File}
-use Rattle.shared_reads.specs.Desks.{HasRoom}
-use Rattle.shared_reads.specs.Kept.{faults_of}
-use Rattle.tree_dup.specs.Private.Hashing.{IsWhole}
-use Rattle.tree_dup.specs.Private.Running.{StandFor, comparison_faults, IsRun, still}
-use Rattle.tree_dup.specs.Private.Sifting.{AreSifted, ReadOn}
+use Rattle.tree_dup.proofs.Prelude.{◌≡◌, List, ◌∷◌, length, map, All, IfSome, Entry, File, HasRoom, faults_of, IsWhole, StandFor, comparison_faults, IsRun}
+use Rattle.tree_dup.proofs.Prelude.{still, AreSifted, ReadOn}
 use Rattle.tree_dup.proofs.grouping.divide.Given as goal
 
 abbrev pub invariant-loop-alloc : goal.invariant-loop-alloc

@@ -1,20 +1,11 @@
-use Rattle.std.proofs.Common.{arith, ◌≡◌, [], ◌∷◌, length, map, take, drop, sym, subst, ◌∙◌, List, All, IsSorted}
-use Rattle.std.proofs.lemmas.List.{take_all}
-use Rattle.std.proofs.lemmas.List.Elements.{All-take, All-drop}
-use Rattle.std.proofs.lemmas.Bool.{eqb-true}
-use Rattle.shared_reads.specs.Kept.{IsKept, faults_of}
-use Rattle.shared_reads.proofs.Counted.{kept_less, kept_rose}
-use Rattle.shared_reads.proofs.Taken.{holds_kept, holds_cut}
-use Rattle.tree_dup.specs.declared.runs.File.{File}
-use Rattle.tree_dup.specs.Private.Hashing.{IsWhole}
-use Rattle.tree_dup.specs.Private.Running.{IsRun, IsLastRun, StandFrom, StandFor, comparison_faults, content_cmp, still}
-use Rattle.tree_dup.specs.Private.Sifting.{AreSifted}
+use Rattle.tree_dup.proofs.Prelude.{arith, ◌≡◌, [], ◌∷◌, length, map, take, drop, sym, subst, ◌∙◌, List, All, IsSorted, take_all, All-take, All-drop, eqb-true}
+use Rattle.tree_dup.proofs.Prelude.{IsKept, faults_of, kept_less, kept_rose, holds_kept, holds_cut, File, IsWhole, IsRun, IsLastRun, StandFrom, StandFor}
+use Rattle.tree_dup.proofs.Prelude.{comparison_faults, content_cmp, still, AreSifted, if_some}
 use Rattle.tree_dup.proofs.Counted.{read_more, read_none}
 use Rattle.tree_dup.proofs.Compared.{front_cut, stand_for}
 use Rattle.tree_dup.proofs.Ran.{sorted_take, still_take, still_drop}
 use Rattle.tree_dup.proofs.Sifted.{sifted_cut, sifted_left, sifted_as}
 use Rattle.tree_dup.proofs.grouping.divide_all.Goals as goal
-use Rattle.tree_cmp.proofs.Placed.{if_some}
 
 pub loop-alloc-init : goal.loop-alloc-init
 loop-alloc-init g c = record {

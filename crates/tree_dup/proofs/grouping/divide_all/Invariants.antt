@@ -1,10 +1,5 @@
-use Rattle.std.proofs.Common.{◌≡◌, List, [], ◌∷◌, length, map, take, All, IsSorted}
-use Rattle.entry_pages.specs.declared.entries.Entry.{Entry}
-use Rattle.shared_reads.specs.Desks.{HasRoom}
-use Rattle.shared_reads.specs.Kept.{Holds, held}
-use Rattle.tree_dup.specs.Private.Hashing.{IsWhole}
-use Rattle.tree_dup.specs.Private.Running.{StandFrom, comparison_faults, content_cmp, still}
-use Rattle.tree_dup.specs.Private.Sifting.{AreSifted, ReadOn}
+use Rattle.tree_dup.proofs.Prelude.{◌≡◌, List, [], ◌∷◌, length, map, take, All, IsSorted, Entry, HasRoom, Holds, held, IsWhole, StandFrom, comparison_faults}
+use Rattle.tree_dup.proofs.Prelude.{content_cmp, still, AreSifted, ReadOn}
 use Rattle.tree_dup.proofs.grouping.divide_all.Given as goal
 
 abbrev pub invariant-loop-alloc : goal.invariant-loop-alloc

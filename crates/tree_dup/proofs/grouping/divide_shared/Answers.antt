@@ -1,10 +1,4 @@
-use Rattle.std.proofs.Common.{List, [], ◌∷◌, length, map, OnOk, subst}
-use Rattle.entry_pages.specs.declared.entries.Entry.{Entry}
-use Rattle.shared_reads.specs.Kept.{Holds, held}
-use Rattle.shared_reads.proofs.Counted.{fell_same}
-use Rattle.tree_dup.specs.declared.runs.File.{File}
-use Rattle.tree_dup.specs.Private.Running.{StandFrom, comparison_faults}
-use Rattle.tree_dup.specs.Private.Sifting.{AreSifted}
+use Rattle.tree_dup.proofs.Prelude.{List, [], ◌∷◌, length, map, OnOk, subst, Entry, Holds, held, fell_same, File, StandFrom, comparison_faults, AreSifted}
 use Rattle.tree_dup.proofs.Counted.{IsFirst, holds_told, tells, same_told, none_falls, keep_on, on_one}
 use Rattle.tree_dup.proofs.grouping.divide_shared.Given as given
 use Rattle.tree_dup.proofs.grouping.divide_shared.Goals as goal

@@ -1,11 +1,6 @@
-use Rattle.std.proofs.Common.{rules, length, map, ap, sym, subst, ◌∙◌}
+use Rattle.tree_dup.proofs.Prelude.{rules, length, map, ap, sym, subst, ◌∙◌, All-permutation, answers_always, length_permutation, kept_on, fell_fell, fell_same}
+use Rattle.tree_dup.proofs.Prelude.{first_told, RoseTogether, File, IsWhole, content_cmp}
 use Rattle.std.specs.Ordering.{is_lt}
-use Rattle.std.proofs.lemmas.List.Sorted.{All-permutation, answers_always, length_permutation}
-use Rattle.shared_reads.proofs.Counted.{kept_on, fell_fell, fell_same}
-use Rattle.tree_cmp.specs.Readers.{first_told, RoseTogether}
-use Rattle.tree_dup.specs.declared.runs.File.{File}
-use Rattle.tree_dup.specs.Private.Hashing.{IsWhole}
-use Rattle.tree_dup.specs.Private.Running.{content_cmp}
 use Rattle.tree_dup.proofs.Classes.{alike_moved}
 use Rattle.tree_dup.proofs.Grouped.{grouped, causes_moved}
 use Rattle.tree_dup.proofs.Ran.{content_ranks}

@@ -1,13 +1,6 @@
-use Rattle.std.proofs.Common.{arith, ◌≡◌, ◌+◌, ◌++◌, ◌<◌, ◌∷◌, [], length, refl, sym, ap, subst, All}
-use Rattle.std.proofs.lemmas.List.Elements.{All-push}
-use Rattle.std.proofs.lemmas.List.Sorted.{IsPermutation-refl, length_permutation}
-use Rattle.tree_dup.specs.Grouping.{HaveCauses, AreWhole}
-use Rattle.tree_dup.specs.Told.{Told, Grouping}
-use Rattle.shared_reads.specs.Kept.{faults_of}
-use Rattle.shared_reads.specs.Counts.{KeepsUp}
-use Rattle.tree_dup.specs.Private.Running.{HasContent, IsRun, comparison_faults}
+use Rattle.tree_dup.proofs.Prelude.{arith, ◌≡◌, ◌+◌, ◌++◌, ◌<◌, ◌∷◌, [], length, refl, sym, ap, subst, All, All-push, IsPermutation-refl, length_permutation}
+use Rattle.tree_dup.proofs.Prelude.{HaveCauses, AreWhole, Told, Grouping, faults_of, KeepsUp, HasContent, IsRun, comparison_faults, kept_rose}
 use Rattle.tree_dup.proofs.Classes.{IsClass, left_alike, left_content, left_fewer, left_whole, class_counted, class_causes, class_whole}
-use Rattle.shared_reads.proofs.Counted.{kept_rose}
 use Rattle.tree_dup.proofs.Kept.{class_left_out, class_kept}
 use Rattle.tree_dup.proofs.Ran.{run_of}
 use Rattle.tree_dup.proofs.grouping.first_class.Given as given

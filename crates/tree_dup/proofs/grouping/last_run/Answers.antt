@@ -1,4 +1,4 @@
-use Rattle.std.proofs.Common.{arith, ◌-◌, length, sym, ◌∙◌}
+use Rattle.tree_dup.proofs.Prelude.{arith, ◌-◌, length, sym, ◌∙◌}
 use Rattle.tree_dup.proofs.Ran.{last_run, last_run_whole, only_last}
 use Rattle.tree_dup.proofs.grouping.last_run.Goals as goal
 

@@ -1,4 +1,4 @@
-use Rattle.std.proofs.Common.{◌≤◌}
+use Rattle.tree_dup.proofs.Prelude.{◌≤◌}
 use Rattle.tree_dup.proofs.Ran.{AreFrom}
 use Rattle.tree_dup.proofs.grouping.last_run.Given as goal
 

@@ -1,9 +1,6 @@
-use Rattle.std.proofs.Common.{rules, arith, ◌≡◌, ◌<◌, ◌+◌, ◌-◌, length, ap, sym, subst, refl, ◌∙◌}
-use Rattle.shared_reads.proofs.Taken.{holds_kept, holds_cut}
-use Rattle.tree_dup.specs.declared.runs.File.{File}
-use Rattle.tree_dup.specs.Private.Hashing.{IsHash, AreHashes}
+use Rattle.tree_dup.proofs.Prelude.{rules, arith, ◌≡◌, ◌<◌, ◌+◌, ◌-◌, length, ap, sym, subst, refl, ◌∙◌, holds_kept, holds_cut, File, IsHash, AreHashes}
+use Rattle.tree_dup.proofs.Prelude.{kept_first}
 use Rattle.tree_dup.proofs.Classes.{still_alike, alike_still}
-use Rattle.shared_reads.proofs.Counted.{kept_first}
 use Rattle.tree_dup.proofs.Counted.{kept_more}
 use Rattle.tree_dup.proofs.Grouped.{causes_none}
 use Rattle.tree_dup.proofs.Hashed.{AreHashedFrom, hashed_none, hashed_all, hashed_more, hashed_at, put_length, put_front, put_alike, put_failed}

@@ -1,12 +1,5 @@
-use Rattle.std.proofs.Common.{◌≡◌, ℕ, List, ◌+◌, ◌<◌, ◌≤◌, length, get_or, All}
-use Rattle.entry_pages.specs.declared.entries.Entry.{Entry}
-use Rattle.shared_reads.specs.Kept.{Holds, held}
-use Rattle.tree_dup.specs.Grouping.{HaveCauses}
-use Rattle.tree_dup.specs.declared.runs.File.{File}
-use Rattle.tree_dup.specs.declared.runs.Standing.TheVariants.{Alike}
-use Rattle.tree_dup.specs.Private.Hashing.{AreHashes, IsWhole, hash_faults}
-use Rattle.shared_reads.specs.Counts.{KeepsUp}
-use Rattle.tree_dup.specs.Private.Sifting.{AreListed}
+use Rattle.tree_dup.proofs.Prelude.{◌≡◌, ℕ, List, ◌+◌, ◌<◌, ◌≤◌, length, get_or, All, Entry, Holds, held, HaveCauses, File, Alike, AreHashes, IsWhole}
+use Rattle.tree_dup.proofs.Prelude.{hash_faults, KeepsUp, AreListed}
 use Rattle.tree_dup.proofs.Hashed.{AreHashedFrom}
 use Rattle.tree_dup.proofs.hashing.hash_all.Given as goal
 

@@ -1,5 +1,4 @@
-use Rattle.std.proofs.Common.{rules, ◌≡◌, ◌+◌, length, subst}
-use Rattle.tree_dup.specs.Grouping.{ShowsWhole}
+use Rattle.tree_dup.proofs.Prelude.{rules, ◌≡◌, ◌+◌, length, subst, ShowsWhole}
 use Rattle.tree_dup.proofs.Fed.{fed_piece}
 use Rattle.tree_dup.proofs.hashing.hash_piece.Goals as goal
 

@@ -1,4 +1,4 @@
-use Rattle.std.proofs.Common.{sym, ◌∙◌}
+use Rattle.tree_dup.proofs.Prelude.{sym, ◌∙◌}
 use Rattle.tree_dup.proofs.hashing.piece_buffer.Goals as goal
 
 pub returns : goal.returns

@@ -1,6 +1,4 @@
-use Rattle.std.proofs.Common.{rules, arith, ◌≡◌, ap, subst, ◌∙◌, Err}
-use Rattle.tree_dup.specs.Grouping.{ShowsWhole}
-use Rattle.tree_cmp.specs.declared.reading.Missing.TheVariants.{Changed}
+use Rattle.tree_dup.proofs.Prelude.{rules, arith, ◌≡◌, ap, subst, ◌∙◌, Err, ShowsWhole, Changed}
 use Rattle.tree_dup.proofs.Fed.{count_more, fed_more, fed_none, hashed, not_short}
 use Rattle.tree_dup.proofs.hashing.read_hash.Goals as goal
 

@@ -1,6 +1,4 @@
-use Rattle.std.proofs.Common.{◌≡◌, ◌-◌, ◌<◌, ◌≤◌, length}
-use Rattle.outside.specs.Count.{RoseBy}
-use Rattle.tree_dup.specs.Grouping.{ShowsWhole}
+use Rattle.tree_dup.proofs.Prelude.{◌≡◌, ◌-◌, ◌<◌, ◌≤◌, length, RoseBy, ShowsWhole}
 use Rattle.tree_dup.proofs.Fed.{Fed}
 use Rattle.tree_dup.proofs.hashing.read_hash.Given as goal
 

@@ -1,8 +1,5 @@
-use Rattle.std.proofs.Common.{◌≡◌, length, map, IfOk, IfSome, rules, arith, subst, sym}
-use Rattle.tree_cmp.specs.Readers.{StatsTold, first_told}
-use Rattle.tree_cmp.proofs.Counted.{first_is, alike, taken_back}
-use Rattle.tree_dup.specs.Grouping.{IsGrouping}
-use Rattle.tree_dup.specs.Told.{Grouping}
+use Rattle.tree_dup.proofs.Prelude.{◌≡◌, length, map, IfOk, IfSome, rules, arith, subst, sym, StatsTold, first_told, first_is, alike, taken_back, IsGrouping}
+use Rattle.tree_dup.proofs.Prelude.{Grouping}
 use Rattle.tree_dup.proofs.lending.group_files.Given as given
 use Rattle.tree_dup.proofs.lending.group_files.Goals as goal
 use Rattle.tree_dup.proofs.lending.group_files.Goals.{In_ok-readers}

@@ -1,9 +1,5 @@
-use Rattle.std.proofs.Common.{◌≡◌, ◌<◌, List, map, get_or, ap, sym, subst, ◌∙◌, All}
-use Rattle.std.proofs.lemmas.List.{length-map}
-use Rattle.std.proofs.lemmas.List.Elements.{All-map}
-use Rattle.tree_dup.specs.declared.runs.File.{File}
-use Rattle.tree_dup.specs.Private.Running.{standing_of, faults_in, failures, still}
-use Rattle.outside.specs.Count.{RoseBy}
+use Rattle.tree_dup.proofs.Prelude.{◌≡◌, ◌<◌, List, map, get_or, ap, sym, subst, ◌∙◌, All, length-map, All-map, File, standing_of, faults_in, failures, still}
+use Rattle.tree_dup.proofs.Prelude.{RoseBy}
 use Rattle.tree_dup.proofs.Classes.{none_fails}
 use Rattle.tree_dup.proofs.Compared.{compared, twice_still, faults_are}
 use Rattle.tree_dup.proofs.Counted.{keeps_rose}

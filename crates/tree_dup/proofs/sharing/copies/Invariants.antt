@@ -1,5 +1,4 @@
-use Rattle.std.proofs.Common.{◌≡◌, map, take}
-use Rattle.tree_dup.specs.Private.Running.{still}
+use Rattle.tree_dup.proofs.Prelude.{◌≡◌, map, take, still}
 use Rattle.tree_dup.proofs.sharing.copies.Given as goal
 
 abbrev pub invariant-loop-file : goal.invariant-loop-file

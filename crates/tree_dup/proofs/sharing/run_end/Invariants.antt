@@ -1,5 +1,4 @@
-use Rattle.std.proofs.Common.{◌≡◌, ℕ, ◌-◌, ◌<◌, ◌≤◌, length, get_or}
-use Rattle.tree_dup.specs.declared.runs.File.{File}
+use Rattle.tree_dup.proofs.Prelude.{◌≡◌, ℕ, ◌-◌, ◌<◌, ◌≤◌, length, get_or, File}
 use Rattle.tree_dup.proofs.sharing.run_end.Given as goal
 
 abbrev pub invariant-loop-end : goal.invariant-loop-end

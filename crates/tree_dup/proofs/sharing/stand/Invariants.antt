@@ -1,6 +1,4 @@
-use Rattle.std.proofs.Common.{◌≡◌, ℕ, ◌<◌, ◌≤◌, length, get_or}
-use Rattle.tree_dup.specs.declared.runs.File.{File}
-use Rattle.tree_dup.specs.declared.runs.Standing.{Standing}
+use Rattle.tree_dup.proofs.Prelude.{◌≡◌, ℕ, ◌<◌, ◌≤◌, length, get_or, File, Standing}
 use Rattle.tree_dup.proofs.sharing.stand.Given as goal
 
 abbrev pub invariant-loop-k : goal.invariant-loop-k

@@ -1,5 +1,4 @@
-use Rattle.std.proofs.Common.{◌≡◌, map, take}
-use Rattle.tree_dup.specs.Private.Running.{standing_of}
+use Rattle.tree_dup.proofs.Prelude.{◌≡◌, map, take, standing_of}
 use Rattle.tree_dup.proofs.sharing.standings.Given as goal
 
 abbrev pub invariant-loop-file : goal.invariant-loop-file

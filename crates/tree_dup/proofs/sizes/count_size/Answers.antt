@@ -1,7 +1,4 @@
-use Rattle.std.proofs.Common.{arith, ◌≡◌, ◌==◌, Bool, sym, ap, ◌∙◌, if◌then◌else◌, min, ◌+◌}
-use Rattle.std.proofs.lemmas.Grind.{common_steps}
-use Rattle.tree_dup.specs.Grouping.{is_sized}
-use Rattle.tree_dup.specs.Private.Sizes.{counted}
+use Rattle.tree_dup.proofs.Prelude.{arith, ◌≡◌, ◌==◌, Bool, sym, ap, ◌∙◌, if◌then◌else◌, min, ◌+◌, common_steps, is_sized, counted}
 use Rattle.tree_dup.proofs.Entered.{no_size, one_size}
 use Rattle.tree_dup.proofs.sizes.count_size.Goals as goal
 

@@ -1,5 +1,4 @@
-use Rattle.std.proofs.Common.{arith, sym, subst, ap, take, length}
-use Rattle.tree_dup.specs.Private.Sizes.{AreCounts}
+use Rattle.tree_dup.proofs.Prelude.{arith, sym, subst, ap, take, length, AreCounts}
 use Rattle.tree_dup.proofs.Entered.{entry_at, entry_last, counted_more, counts_all}
 use Rattle.tree_dup.proofs.sizes.size_counts.Goals as goal
 

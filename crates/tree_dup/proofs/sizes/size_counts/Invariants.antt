@@ -1,5 +1,4 @@
-use Rattle.std.proofs.Common.{◌≡◌, ◌-◌, ◌≤◌, length, take}
-use Rattle.tree_dup.specs.Private.Sizes.{AreCounts}
+use Rattle.tree_dup.proofs.Prelude.{◌≡◌, ◌-◌, ◌≤◌, length, take, AreCounts}
 use Rattle.tree_dup.proofs.sizes.size_counts.Given as goal
 
 abbrev pub invariant-loop-cursor : goal.invariant-loop-cursor

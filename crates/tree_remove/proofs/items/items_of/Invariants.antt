@@ -1,5 +1,4 @@
-use Rattle.std.proofs.Common.{◌≡◌, ◌-◌, ◌≤◌, length, take}
-use Rattle.tree_remove.specs.PrivateDeeds.{items_of}
+use Rattle.tree_remove.proofs.Prelude.{◌≡◌, ◌-◌, ◌≤◌, length, take, items_of}
 use Rattle.tree_remove.proofs.items.items_of.Given as goal
 
 -- the items of the entries that were passed

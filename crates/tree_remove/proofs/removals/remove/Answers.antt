@@ -1,10 +1,5 @@
-use Rattle.std.proofs.Common.{◌∙◌, refl, ap, sym, subst, length, map, IfSome}
-use Rattle.std.specs.List.{count_by, zip}
-use Rattle.outside.specs.Parts.{IsTreeIn}
-use Rattle.level_work.specs.Counts.{is_failed}
-use Rattle.level_work.specs.Levels.{ParentsFail}
+use Rattle.tree_remove.proofs.Prelude.{◌∙◌, refl, ap, sym, subst, length, map, IfSome, count_by, zip, IsTreeIn, is_failed, ParentsFail, HaveCauses, Removed}
 use Rattle.level_work.specs.declared.items.Order.TheVariants as order
-use Rattle.tree_remove.specs.Removing.{HaveCauses, Removed}
 use Rattle.tree_remove.proofs.Causes.{AllShow, causes}
 use Rattle.tree_remove.proofs.Removes.{stands_in, fit, rest_of, acted_rest, row_paths, removed, rose_by}
 use Rattle.tree_remove.proofs.Rows.{count_paths}

@@ -1,4 +1,4 @@
-use Rattle.std.proofs.Common.{◌≡◌, length}
+use Rattle.tree_remove.proofs.Prelude.{◌≡◌, length}
 use Rattle.tree_remove.proofs.removals.removers.Given as goal
 
 abbrev pub invariant-loop : goal.invariant-loop

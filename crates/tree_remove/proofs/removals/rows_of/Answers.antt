@@ -1,6 +1,4 @@
-use Rattle.std.proofs.Common.{rules, ◌≡◌, ◌∙◌, ◌∷◌, ◌++◌, [], length, ap, arith, slice_get}
-use Rattle.std.specs.Vec.Iter.{into_iter_items, into_iter_len}
-use Rattle.std.proofs.lemmas.List.{nil_from_length}
+use Rattle.tree_remove.proofs.Prelude.{rules, ◌≡◌, ◌∙◌, ◌∷◌, ◌++◌, [], length, ap, arith, slice_get, into_iter_items, into_iter_len, nil_from_length}
 use Rattle.tree_remove.proofs.Rows.{at_end, one_more}
 use Rattle.tree_remove.proofs.removals.rows_of.Goals as goal
 

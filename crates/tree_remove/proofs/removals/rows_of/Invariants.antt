@@ -1,5 +1,4 @@
-use Rattle.std.proofs.Common.{◌≡◌, length}
-use Rattle.std.specs.Vec.Iter.{into_iter_items, into_iter_len}
+use Rattle.tree_remove.proofs.Prelude.{◌≡◌, length, into_iter_items, into_iter_len}
 use Rattle.tree_remove.proofs.Rows.{SoFar}
 use Rattle.tree_remove.proofs.removals.rows_of.Given as goal
 

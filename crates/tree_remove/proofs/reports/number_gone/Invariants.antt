@@ -1,6 +1,4 @@
-use Rattle.std.proofs.Common.{◌≡◌, ◌≤◌, take}
-use Rattle.std.specs.List.{count_by}
-use Rattle.level_work.specs.Counts.{is_done}
+use Rattle.tree_remove.proofs.Prelude.{◌≡◌, ◌≤◌, take, count_by, is_done}
 use Rattle.tree_remove.proofs.reports.number_gone.Given as goal
 
 -- how many are gone of the paths that were passed

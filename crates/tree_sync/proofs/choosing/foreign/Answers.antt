@@ -1,16 +1,6 @@
-use Rattle.std.proofs.Common.{◌≡◌, ◌&&◌, ◌∙◌, None, ap, filter, sym, subst, not, is_some, arith}
-use Rattle.std.specs.List.{list_any}
-use Rattle.std.proofs.lemmas.List.{take_all}
-use Rattle.path_text.specs.Graft.{below_of}
-use Rattle.path_text.specs.Order.{is_within}
-use Rattle.path_text.specs.Path.{refusal}
-use Rattle.flat_list.proofs.Turns.{no_more}
-use Rattle.tree_cmp.specs.Passes.{IsPassed}
-use Rattle.tree_cmp.specs.Sides.{side}
-use Rattle.tree_cmp.proofs.Passing.{IsHere, filtered_more, here, next_below, sought_here, step, whole}
-use Rattle.tree_sync.specs.PrivateSearch.{IsCleared}
-use Rattle.tree_sync.specs.PrivateSteps.{is_chosen_off, row_paths}
-use Rattle.tree_sync.specs.Syncing.{is_foreign, row_at}
+use Rattle.tree_sync.proofs.Prelude.{◌≡◌, ◌&&◌, ◌∙◌, None, ap, filter, sym, subst, not, is_some, arith, list_any, take_all, below_of, is_within, refusal}
+use Rattle.tree_sync.proofs.Prelude.{no_more, IsPassed, side, IsHere, filtered_more, here, next_below, sought_here, step, whole, IsCleared, is_chosen_off}
+use Rattle.tree_sync.proofs.Prelude.{row_paths, is_foreign, row_at}
 use Rattle.tree_sync.proofs.Cursor.{next_cleared}
 use Rattle.tree_sync.proofs.choosing.foreign.Goals as goal
 use Rattle.tree_sync.proofs.choosing.foreign.Goals.{After-entry-entry}

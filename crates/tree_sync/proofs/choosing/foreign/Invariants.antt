@@ -1,9 +1,4 @@
-use Rattle.std.proofs.Common.{◌≡◌, ◌-◌, ◌≤◌, length, take, filter}
-use Rattle.path_text.specs.Graft.{below_of}
-use Rattle.tree_cmp.specs.Sides.{side}
-use Rattle.tree_cmp.specs.Passes.{IsPassed, IsNext}
-use Rattle.tree_sync.specs.PrivateSearch.{IsCleared}
-use Rattle.tree_sync.specs.PrivateSteps.{is_chosen_off, row_paths}
+use Rattle.tree_sync.proofs.Prelude.{◌≡◌, ◌-◌, ◌≤◌, length, take, filter, below_of, side, IsPassed, IsNext, IsCleared, is_chosen_off, row_paths}
 use Rattle.tree_sync.proofs.choosing.foreign.Given as goal
 
 -- the chosen ones of the entries that were passed; the searches are not past the next one

@@ -1,13 +1,6 @@
-use Rattle.std.proofs.Common.{◌≡◌, ◌+◌, ◌&&◌, ◌++◌, ◌∷◌, [], ◌∙◌, List, ap, filter, length, sym, subst, not, is_some, arith, cond}
-use Rattle.std.proofs.lemmas.List.{take_all}
-use Rattle.path_text.specs.Graft.{below_of}
-use Rattle.entry_pages.specs.declared.entries.Entry.{Entry}
-use Rattle.flat_list.proofs.Turns.{no_more}
-use Rattle.tree_cmp.specs.Passes.{IsPassed}
-use Rattle.tree_cmp.specs.Sides.{side}
-use Rattle.tree_cmp.proofs.Passing.{IsHere, filtered_more, here, next_below, sought_here, step, taken, whole}
-use Rattle.tree_sync.specs.PrivateSteps.{masks_of, row_paths}
-use Rattle.tree_sync.specs.Syncing.{agrees, has_other, is_copied, is_kept, row_at}
+use Rattle.tree_sync.proofs.Prelude.{◌≡◌, ◌+◌, ◌&&◌, ◌++◌, ◌∷◌, [], ◌∙◌, List, ap, filter, length, sym, subst, not, is_some, arith, cond, take_all, below_of}
+use Rattle.tree_sync.proofs.Prelude.{Entry, no_more, IsPassed, side, IsHere, filtered_more, here, next_below, sought_here, step, taken, whole, masks_of}
+use Rattle.tree_sync.proofs.Prelude.{row_paths, agrees, has_other, is_copied, is_kept, row_at}
 use Rattle.tree_sync.proofs.Cursor.{counted_more, few_more}
 use Rattle.tree_sync.proofs.Kept.{masks_more}
 use Rattle.tree_sync.proofs.dividing.divided.Goals as goal

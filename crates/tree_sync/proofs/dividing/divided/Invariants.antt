@@ -1,9 +1,4 @@
-use Rattle.std.proofs.Common.{◌≡◌, ◌-◌, ◌≤◌, length, take, filter}
-use Rattle.path_text.specs.Graft.{below_of}
-use Rattle.tree_cmp.specs.Sides.{side}
-use Rattle.tree_cmp.specs.Passes.{IsPassed, IsNext}
-use Rattle.tree_sync.specs.PrivateSteps.{masks_of, row_paths}
-use Rattle.tree_sync.specs.Syncing.{is_kept, is_copied}
+use Rattle.tree_sync.proofs.Prelude.{◌≡◌, ◌-◌, ◌≤◌, length, take, filter, below_of, side, IsPassed, IsNext, masks_of, row_paths, is_kept, is_copied}
 use Rattle.tree_sync.proofs.dividing.divided.Given as goal
 
 -- the kept, copied and masked ones of the entries that were passed; the search is not past the next one

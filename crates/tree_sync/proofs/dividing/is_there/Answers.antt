@@ -1,8 +1,4 @@
-use Rattle.std.proofs.Common.{◌&&◌, ◌∙◌, ap, sym, nat_eq, is_some}
-use Rattle.std.specs.Cmp.Lexicographic.{pointwise}
-use Rattle.std.proofs.lemmas.List.Folds.{list_any_at}
-use Rattle.entry_pages.specs.declared.entries.Entry.{Entry}
-use Rattle.tree_cmp.proofs.Passing.{IsHere, here}
+use Rattle.tree_sync.proofs.Prelude.{◌&&◌, ◌∙◌, ap, sym, nat_eq, is_some, pointwise, list_any_at, Entry, IsHere, here}
 use Rattle.tree_sync.proofs.dividing.is_there.Goals as goal
 
 pub returns-then-is_told_top : goal.returns-then-is_told_top

@@ -1,7 +1,5 @@
-use Rattle.std.proofs.Common.{◌≡◌, ◌-◌, ◌≤◌, ◌&&◌, false, length, take}
+use Rattle.tree_sync.proofs.Prelude.{◌≡◌, ◌-◌, ◌≤◌, ◌&&◌, false, length, take, list_any, pointwise}
 use Rattle.std.specs.Prelude.{nat_eq, is_some}
-use Rattle.std.specs.List.{list_any}
-use Rattle.std.specs.Cmp.Lexicographic.{pointwise}
 use Rattle.tree_sync.proofs.dividing.is_there.Given as goal
 
 -- none of the entries that were passed is the top's

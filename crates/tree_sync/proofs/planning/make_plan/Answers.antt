@@ -1,12 +1,5 @@
-use Rattle.std.proofs.Common.{◌≡◌, ◌∙◌, [], IfSome, ap, cond, filter, map, refl, subst, sym}
-use Rattle.std.specs.List.Sorted.{IsStrictlySortedBy}
-use Rattle.path_text.specs.Order.{path_cmp}
-use Rattle.path_text.proofs.Moved.{below_keeps_order}
-use Rattle.outside.specs.Parts.{IsTreeIn}
-use Rattle.tree_cmp.specs.Sides.{side}
-use Rattle.tree_sync.specs.PrivateSteps.{Begun, IsPlan, is_chosen_off, masks_of}
-use Rattle.tree_sync.specs.Syncing.{ReadsShow}
-use Rattle.tree_sync.specs.declared.planning.Plan.{Plan}
+use Rattle.tree_sync.proofs.Prelude.{◌≡◌, ◌∙◌, [], IfSome, ap, cond, filter, map, refl, subst, sym, IsStrictlySortedBy, path_cmp, below_keeps_order, IsTreeIn}
+use Rattle.tree_sync.proofs.Prelude.{side, Begun, IsPlan, is_chosen_off, masks_of, ReadsShow, Plan}
 use Rattle.tree_sync.proofs.Kept.{masks_ascend}
 use Rattle.tree_sync.proofs.Planned.{empty_plan, full_plan}
 use Rattle.tree_sync.proofs.Steps.{left_told, reads_show, right_told}

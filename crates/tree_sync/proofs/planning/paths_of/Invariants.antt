@@ -1,4 +1,4 @@
-use Rattle.std.proofs.Common.{◌≡◌, map, take}
+use Rattle.tree_sync.proofs.Prelude.{◌≡◌, map, take}
 use Rattle.tree_sync.proofs.planning.paths_of.Given as goal
 
 -- the paths of the files that were passed

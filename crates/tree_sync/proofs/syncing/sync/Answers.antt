@@ -1,7 +1,4 @@
-use Rattle.std.proofs.Common.{sym, subst, IfSome}
-use Rattle.tree_copy.specs.Copying.{CanCopy, FitsTree, SameButTargets}
-use Rattle.tree_sync.specs.Results.{Results}
-use Rattle.tree_sync.specs.Syncing.{ReadsShow, SameOutside}
+use Rattle.tree_sync.proofs.Prelude.{sym, subst, IfSome, CanCopy, FitsTree, SameButTargets, Results, ReadsShow, SameOutside}
 use Rattle.tree_sync.proofs.Steps.{blamed_by, copied_by, is_sync, plan_chosen, plan_copied, plan_fits, plan_there, rest_copied, rest_removed}
 use Rattle.tree_sync.proofs.syncing.sync.Given as given
 use Rattle.tree_sync.proofs.syncing.sync.Goals as goal

@@ -1,14 +1,8 @@
-use Rattle.std.proofs.Common.{ap, ◌∙◌, ◌++◌, ◌∷◌, [], map, List, subst, sym}
-use Rattle.path_text.specs.Path.{joined}
-use Rattle.outside.specs.declared.listings.Listing.{Listing}
-use Rattle.std.specs.List.{AllByRecursion}
-use Rattle.tree_walk.specs.Answered.{IsAnswered}
-use Rattle.tree_walk.specs.Held.{log_of, held_of}
+use Rattle.tree_walk.proofs.Prelude.{ap, ◌∙◌, ◌++◌, ◌∷◌, [], map, List, subst, sym, joined, Listing, AllByRecursion, IsAnswered, log_of, held_of, all_join}
 use Rattle.tree_walk.proofs.Held.{IsStep, step_holds, step_log}
 use Rattle.tree_walk.proofs.keeping.handle_path.Given as given
 use Rattle.tree_walk.proofs.keeping.handle_path.Goals as goal
 use Rattle.tree_walk.proofs.keeping.handle_path.Goals.{In-Ok-keep}
-use Rattle.flat_list.proofs.Pieces.{all_join}
 
 -- A path that was looked at and kept is a step.
 stepped : (g : given.Over) (c : In-Ok-keep g)

@@ -1,5 +1,4 @@
-use Rattle.std.proofs.Common.{rules, ◌≡◌, true, false}
-use Rattle.tree_walk.specs.Held.{is_listed}
+use Rattle.tree_walk.proofs.Prelude.{rules, ◌≡◌, true, false, is_listed}
 use Rattle.tree_walk.proofs.Held.{kept_listed, kept_alone}
 use Rattle.tree_walk.proofs.keeping.keep.Goals as goal
 

@@ -1,11 +1,7 @@
-use Rattle.std.proofs.Common.{◌≡◌, ◌∙◌, ℕ, true, false, ap, sym, subst, Option, Some, IfSome, List, []}
-use Rattle.outside.specs.declared.listings.Listing.{Listing}
+use Rattle.tree_walk.proofs.Prelude.{◌≡◌, ◌∙◌, ℕ, true, false, ap, sym, subst, Option, Some, IfSome, List, [], Listing, is_listed, Files, IsAnswered, by_stat}
+use Rattle.tree_walk.proofs.Prelude.{by_link, by_list, is_linked, IsLook}
 use Rattle.path_text.proofs.Parts as parts
-use Rattle.tree_walk.specs.Held.{is_listed}
 use Rattle.outside.specs.Asked as asked
-use Rattle.outside.specs.Tree.{Files}
-use Rattle.tree_walk.specs.Answered.{IsAnswered}
-use Rattle.tree_walk.specs.Looking.{by_stat, by_link, by_list, is_linked, IsLook}
 use Rattle.tree_walk.proofs.Caused.{by_stat_alone, by_stat_and_link, by_stat_and_list}
 use Rattle.tree_walk.proofs.Looked.{IsStat, IsListing, IsReading, stat_at, stat_alone, stat_and_link, stat_and_list}
 use Rattle.tree_walk.proofs.looking.look.Given as given

@@ -1,4 +1,5 @@
-use Rattle.std.proofs.Common.{ap, Err}
+use Rattle.tree_walk.proofs.Prelude.{ap}
+use Rattle.std.proofs.Common.{Err}
 use Rattle.tree_walk.proofs.Pushed.{pushed_more, not_long}
 use Rattle.tree_walk.proofs.looking.push_children.Goals as goal
 

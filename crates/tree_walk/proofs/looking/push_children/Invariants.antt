@@ -1,5 +1,4 @@
-use Rattle.std.proofs.Common.{◌≡◌, ◌++◌, map, take, length}
-use Rattle.path_text.specs.Path.{joined}
+use Rattle.tree_walk.proofs.Prelude.{◌≡◌, ◌++◌, map, take, length, joined}
 use Rattle.tree_walk.proofs.looking.push_children.Given as goal
 
 -- the names before `at` are there

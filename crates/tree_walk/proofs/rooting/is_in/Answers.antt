@@ -1,4 +1,4 @@
-use Rattle.std.proofs.Common.{◌∙◌, sym}
+use Rattle.tree_walk.proofs.Prelude.{◌∙◌, sym}
 use Rattle.tree_walk.proofs.InBytes.{AreBytes, in_as_same, in_as_under, in_as_other}
 use Rattle.tree_walk.proofs.rooting.is_in.Goals as goal
 use Rattle.tree_walk.proofs.rooting.is_in.Goals.{After-starts_with}

@@ -1,6 +1,4 @@
-use Rattle.std.proofs.Common.{rules}
-use Rattle.std.proofs.lemmas.Fn.{dedup_same}
-use Rattle.tree_walk.specs.Roots.{is_in}
+use Rattle.tree_walk.proofs.Prelude.{rules, dedup_same, is_in}
 use Rattle.tree_walk.proofs.Rooted.{rooted}
 use Rattle.tree_walk.proofs.rooting.roots_of.Goals as goal
 

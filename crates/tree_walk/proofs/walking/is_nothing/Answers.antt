@@ -1,11 +1,5 @@
-use Rattle.std.proofs.Common.{◌≡◌, ℕ, ◌<◌, Bool, true, false, List, [], length, sym, rules, tests, MatchBool}
-use Rattle.std.specs.Prelude.{Vec, ◌==◌}
-use Rattle.std.specs.Vec.{vec_len}
-use Rattle.std.specs.List.{HoldsAt, AllWithin}
-use Rattle.std.specs.declared.alloc.Global.{Global}
-use Rattle.std.proofs.lemmas.Bool.{false≢true}
-use Rattle.std.proofs.lemmas.Iterator.{cases_from_all, YieldsList-from_slice}
-use Rattle.circle_run.specs.Left.{all_left}
+use Rattle.tree_walk.proofs.Prelude.{◌≡◌, ℕ, ◌<◌, Bool, true, false, List, [], length, sym, rules, tests, MatchBool, Vec, ◌==◌, vec_len, HoldsAt, AllWithin}
+use Rattle.tree_walk.proofs.Prelude.{Global, false≢true, cases_from_all, YieldsList-from_slice, all_left}
 use Rattle.tree_walk.proofs.Cuts.{nothing_left, some_left}
 use Rattle.tree_walk.proofs.walking.is_nothing.Goals as goal
 

@@ -1,5 +1,4 @@
-use Rattle.std.proofs.Common.{◌≡◌, [], length}
-use Rattle.std.specs.List.{AllByRecursion}
+use Rattle.tree_walk.proofs.Prelude.{◌≡◌, [], length, AllByRecursion}
 use Rattle.tree_walk.proofs.walking.made.Given as goal
 
 abbrev pub invariant-loop : goal.invariant-loop

@@ -1,10 +1,7 @@
-use Rattle.std.proofs.Common.{◌∙◌, ap, arith}
-use Rattle.outside.specs.Count.{capped}
-use Rattle.tree_walk.specs.Held.{Holds}
+use Rattle.tree_walk.proofs.Prelude.{◌∙◌, ap, arith, capped, Holds, all_join}
 use Rattle.tree_walk.proofs.Caused.{more_answered}
 use Rattle.tree_walk.proofs.Ranks.{more_logs, more_faults, never_falls}
 use Rattle.tree_walk.proofs.walking.opened.Goals as goal
-use Rattle.flat_list.proofs.Pieces.{all_join}
 
 pub loop-job-preserved : goal.loop-job-preserved
 loop-job-preserved g c =

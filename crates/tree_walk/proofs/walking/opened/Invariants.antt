@@ -1,9 +1,4 @@
-use Rattle.std.proofs.Common.{◌≡◌, ◌<◌, ◌^◌}
-use Rattle.std.specs.List.{flat_map, sum_by, AllByRecursion}
-use Rattle.outside.specs.Count.{RoseBy}
-use Rattle.tree_walk.specs.Walk.{weight_of}
-use Rattle.tree_walk.specs.Answered.{IsAnswered}
-use Rattle.tree_walk.specs.Held.{Holds, entries_of}
+use Rattle.tree_walk.proofs.Prelude.{◌≡◌, ◌<◌, ◌^◌, flat_map, sum_by, AllByRecursion, RoseBy, weight_of, IsAnswered, Holds, entries_of}
 use Rattle.tree_walk.proofs.walking.opened.Given as goal
 
 abbrev pub invariant-loop-job : goal.invariant-loop-job

@@ -1,11 +1,6 @@
-use Rattle.std.proofs.Common.{◌≡◌, ◌∙◌, ap, sym, subst, arith, ◌-◌, ◌^◌, [], length}
-use Rattle.std.specs.List.{flat_map, sum_by, All}
-use Rattle.circle_run.specs.Left.{all_left}
+use Rattle.tree_walk.proofs.Prelude.{◌≡◌, ◌∙◌, ap, sym, subst, arith, ◌-◌, ◌^◌, [], length, flat_map, sum_by, All, all_left, IsAnswered, IsCutFound, found_in}
+use Rattle.tree_walk.proofs.Prelude.{IsFound, WasWalked, IsProgressTo}
 use Rattle.tree_walk.specs.declared.reports.Walked.TheVariants as walked
-use Rattle.tree_walk.specs.Answered.{IsAnswered}
-use Rattle.tree_walk.specs.Cut.{IsCutFound, found_in}
-use Rattle.tree_walk.specs.Found.{IsFound}
-use Rattle.tree_walk.specs.Traced.{WasWalked, IsProgressTo}
 use Rattle.tree_walk.proofs.Caused.{all_answered}
 use Rattle.tree_walk.proofs.Cuts.{of_cut, too_many}
 use Rattle.tree_walk.proofs.Ranks.{IsRun, is_run, found, cut_found, shared, share_each}

@@ -1,6 +1,4 @@
-use Rattle.std.proofs.Common.{arith, ◌≡◌, true, ◌∙◌, sym}
-use Rattle.std.specs.Char.{is_ascii_digit}
-use Rattle.std.specs.Prelude.{slice_index}
+use Rattle.whole_lines.proofs.Prelude.{arith, ◌≡◌, true, ◌∙◌, sym, is_ascii_digit, slice_index}
 use Rattle.whole_lines.proofs.Digits.{digits_fit, next_each, next_value}
 use Rattle.whole_lines.proofs.reading.digits_of.Goals as goal
 

@@ -1,5 +1,4 @@
-use Rattle.std.proofs.Common.{◌≡◌, ◌≤◌, ◌-◌, take, length}
-use Rattle.std.specs.Str.Parse.{AllDigits, digits_value}
+use Rattle.whole_lines.proofs.Prelude.{◌≡◌, ◌≤◌, ◌-◌, take, length, AllDigits, digits_value}
 use Rattle.whole_lines.proofs.reading.digits_of.Given as goal
 
 -- the digits so far, and the number that they write

@@ -1,4 +1,4 @@
-use Rattle.std.proofs.Common.{◌∙◌}
+use Rattle.whole_lines.proofs.Prelude.{◌∙◌}
 use Rattle.whole_lines.proofs.Numbers.{parsed_is}
 use Rattle.whole_lines.proofs.reading.parsed.Goals as goal
 

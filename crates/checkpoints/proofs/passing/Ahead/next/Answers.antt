@@ -1,7 +1,4 @@
-use Rattle.std.proofs.Common.{◌≡◌, ◌∷◌, ◌∙◌, ap, sym, Bool, false, List, drop}
-use Rattle.entry_pages.specs.declared.entries.Entry.{Entry}
-use Rattle.flat_list.proofs.Sourced.{entry_left}
-use Rattle.checkpoints.specs.Passing.{ahead_of, first_of}
+use Rattle.checkpoints.proofs.Prelude.{◌≡◌, ◌∷◌, ◌∙◌, ap, sym, Bool, false, List, drop, Entry, entry_left, ahead_of, first_of}
 use Rattle.checkpoints.proofs.passing.Ahead.next.Goals as goal
 
 pub returns : goal.returns

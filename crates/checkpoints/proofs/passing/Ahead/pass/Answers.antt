@@ -1,7 +1,4 @@
-use Rattle.std.proofs.Common.{◌∙◌, ap, sym, Bool, List}
-use Rattle.entry_pages.specs.declared.entries.Entry.{Entry}
-use Rattle.flat_list.proofs.Sourced.{Stepped}
-use Rattle.checkpoints.specs.Passing.{passed_of, ahead_of, moved}
+use Rattle.checkpoints.proofs.Prelude.{◌∙◌, ap, sym, Bool, List, Entry, Stepped, passed_of, ahead_of, moved}
 use Rattle.checkpoints.proofs.Stepping.{stepped}
 use Rattle.checkpoints.proofs.passing.Ahead.pass.Goals as goal
 

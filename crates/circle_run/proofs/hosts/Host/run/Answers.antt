@@ -1,9 +1,8 @@
-use Rattle.std.proofs.Common.{◌<◌, length, refl, arith}
+use Rattle.circle_run.proofs.Prelude.{◌<◌, length, refl, arith, KeptByEach}
 use Rattle.circle_run.proofs.Rounds.{round_first, round_more, round_at, round_last, same_all, lost_before, lost_here}
 use Rattle.circle_run.proofs.Playing.{going_first, going_more, going_round, each_first, each_more}
 use Rattle.circle_run.proofs.Lone.{alone_first, alone_step}
 use Rattle.circle_run.proofs.Stepped.{still_then}
-use Rattle.circle_run.specs.Hosts.{KeptByEach}
 use Rattle.circle_run.proofs.hosts.Host.run.Goals as goal
 
 pub loop-init : goal.loop-init

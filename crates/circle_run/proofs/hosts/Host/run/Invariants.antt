@@ -1,7 +1,4 @@
-use Rattle.std.proofs.Common.{◌≡◌, length, Some, None}
-use Rattle.post_board.specs.Told.{Told}
-use Rattle.circle_run.specs.Hosts.{NoneLost, AreAll, KeptByEach, AllAlone}
-use Rattle.circle_run.specs.declared.settings.Options.{Options}
+use Rattle.circle_run.proofs.Prelude.{◌≡◌, length, Some, None, Told, NoneLost, AreAll, KeptByEach, AllAlone, Options}
 use Rattle.circle_run.proofs.Playing.{Going}
 use Rattle.circle_run.proofs.Rounds.{InRound}
 use Rattle.circle_run.proofs.hosts.Host.run.Given as goal

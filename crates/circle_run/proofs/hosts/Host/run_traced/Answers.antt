@@ -1,7 +1,6 @@
-use Rattle.std.proofs.Common.{◌<◌, length, refl, ap, ◌∙◌, arith}
+use Rattle.circle_run.proofs.Prelude.{◌<◌, length, refl, ap, ◌∙◌, arith, KeptInOrder}
 use Rattle.circle_run.proofs.Rounds.{round_first, round_more, round_at, round_last, same_all, wrote_more}
 use Rattle.circle_run.proofs.Playing.{going_first, going_more, going_round, order_first, order_more}
-use Rattle.circle_run.specs.Hosts.{KeptInOrder}
 use Rattle.circle_run.proofs.hosts.Host.run_traced.Goals as goal
 
 pub loop-init : goal.loop-init

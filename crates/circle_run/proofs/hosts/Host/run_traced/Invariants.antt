@@ -1,7 +1,4 @@
-use Rattle.std.proofs.Common.{◌≡◌, length, Some}
-use Rattle.post_board.specs.Told.{Told}
-use Rattle.circle_run.specs.Hosts.{NoneWrote, AreAll, KeptInOrder}
-use Rattle.circle_run.specs.declared.settings.Options.{Options}
+use Rattle.circle_run.proofs.Prelude.{◌≡◌, length, Some, Told, NoneWrote, AreAll, KeptInOrder, Options}
 use Rattle.circle_run.proofs.Playing.{Going}
 use Rattle.circle_run.proofs.Rounds.{InRound}
 use Rattle.circle_run.proofs.hosts.Host.run_traced.Given as goal

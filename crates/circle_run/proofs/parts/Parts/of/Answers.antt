@@ -1,8 +1,4 @@
-use Rattle.std.proofs.Common.{◌≡◌, sym, ap, ◌∙◌, List, [], ◌∷◌, ◌++◌, map, append-nil}
-use Rattle.std.specs.List.{flat_map}
-use Rattle.std.proofs.lemmas.List.{map_push}
-use Rattle.std.proofs.lemmas.List.Concat.{flat_map-append}
-use Rattle.circle_run.specs.declared.books.Book.{Book}
+use Rattle.circle_run.proofs.Prelude.{◌≡◌, sym, ap, ◌∙◌, List, [], ◌∷◌, ◌++◌, map, append-nil, flat_map, map_push, flat_map-append, Book}
 use Rattle.circle_run.proofs.parts.Parts.of.Goals as goal
 
 -- a list of what each has, with that of one more

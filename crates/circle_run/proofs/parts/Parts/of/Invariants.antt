@@ -1,5 +1,4 @@
-use Rattle.std.proofs.Common.{◌≡◌, map}
-use Rattle.std.specs.List.{flat_map}
+use Rattle.circle_run.proofs.Prelude.{◌≡◌, map, flat_map}
 use Rattle.circle_run.proofs.parts.Parts.of.Given as goal
 
 abbrev pub invariant-loop-rank : goal.invariant-loop-rank

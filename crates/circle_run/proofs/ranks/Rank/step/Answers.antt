@@ -1,4 +1,4 @@
-use Rattle.std.proofs.Common.{refl, true}
+use Rattle.circle_run.proofs.Prelude.{refl, true}
 use Rattle.circle_run.proofs.Asked.{true_not_false}
 use Rattle.circle_run.proofs.Turning.{took_ready, skipped}
 use Rattle.circle_run.proofs.ranks.Rank.step.Goals as goal

@@ -1,5 +1,4 @@
-use Rattle.std.proofs.Common.{ap, subst, sym, ◌∙◌, length}
-use Rattle.circle_run.specs.Ready.{Ready}
+use Rattle.circle_run.proofs.Prelude.{ap, subst, sym, ◌∙◌, length, Ready}
 use Rattle.circle_run.proofs.Tallied.{turned, turned_after, ready_after}
 use Rattle.circle_run.proofs.ranks.Rank.turn.Goals as goal
 

@@ -1,10 +1,5 @@
-use Rattle.std.proofs.Common.{◌≡◌, ℕ, ap, sym, ◌∙◌, refl, subst, ⊎_elim, arith, [], ◌∷◌, length}
-use Rattle.ring_core.specs.declared.events.Event.TheVariants.{Give}
-use Rattle.post_board.specs.Shown.{Shown}
-use Rattle.post_board.specs.Deeds.{Deed, give, refuse, event_of}
-use Rattle.circle_run.specs.Moves.{answer_of, batches_after}
-use Rattle.circle_run.specs.Private.Books.{Writes}
-use Rattle.circle_run.specs.declared.books.Book.{Book}
+use Rattle.circle_run.proofs.Prelude.{◌≡◌, ℕ, ap, sym, ◌∙◌, refl, subst, ⊎_elim, arith, [], ◌∷◌, length, Give, Shown, Deed, give, refuse, event_of, answer_of}
+use Rattle.circle_run.proofs.Prelude.{batches_after, Writes, Book}
 use Rattle.circle_run.proofs.Stepped.{tells_as}
 use Rattle.circle_run.proofs.Asked.{awaits_given, awaits_refused}
 use Rattle.circle_run.proofs.Answering.{answer_gives, writes_after, knows_gave, knows_refused, serves_on}

@@ -1,9 +1,4 @@
-use Rattle.std.proofs.Common.{ap, refl, inl, rules}
-use Rattle.circle_run.specs.Moves.{did}
-use Rattle.post_board.specs.Shown.{Shown}
-use Rattle.post_board.specs.Deeds.{ask}
-use Rattle.circle_run.specs.Choices.{to_ask}
-use Rattle.circle_run.specs.Private.Steps.{Follows}
+use Rattle.circle_run.proofs.Prelude.{ap, refl, inl, rules, did, Shown, ask, to_ask, Follows}
 use Rattle.circle_run.specs.declared.steps.Did.TheVariants.{Acted as DidAct}
 use Rattle.circle_run.proofs.Called.{came_idle}
 use Rattle.circle_run.proofs.ranks.RankState.ask_next.Goals as goal

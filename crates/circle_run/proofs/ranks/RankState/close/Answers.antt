@@ -1,9 +1,4 @@
-use Rattle.std.proofs.Common.{ap, sym, refl, subst, rules, [], ◌∷◌}
-use Rattle.post_board.specs.Shown.{Shown}
-use Rattle.post_board.specs.Deeds.{stop}
-use Rattle.circle_run.specs.Moves.{noted}
-use Rattle.circle_run.specs.Choices.{Closes}
-use Rattle.circle_run.specs.Private.Steps.{Ends}
+use Rattle.circle_run.proofs.Prelude.{ap, sym, refl, subst, rules, [], ◌∷◌, Shown, stop, noted, Closes, Ends}
 use Rattle.circle_run.specs.declared.steps.Did.TheVariants.{Stopped as DidStop}
 use Rattle.circle_run.proofs.Winding.{came_looked}
 use Rattle.circle_run.proofs.Called.{came_noted}

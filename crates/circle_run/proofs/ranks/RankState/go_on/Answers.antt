@@ -1,6 +1,4 @@
-use Rattle.std.proofs.Common.{◌<◌, arith, length}
-use Rattle.circle_run.specs.Choices.{choice, standing}
-use Rattle.circle_run.specs.Private.Steps.{Follows}
+use Rattle.circle_run.proofs.Prelude.{◌<◌, arith, length, choice, standing, Follows}
 use Rattle.circle_run.specs.declared.steps.Did.TheVariants.{Handled as DidHandle}
 use Rattle.circle_run.proofs.Stepped.{came_handled}
 use Rattle.circle_run.proofs.Choosing.{follows_handled}

@@ -1,9 +1,4 @@
-use Rattle.std.proofs.Common.{ap, sym, refl, subst, rules, [], ◌∷◌}
-use Rattle.post_board.specs.Shown.{Shown}
-use Rattle.post_board.specs.Deeds.{see_over}
-use Rattle.post_board.specs.declared.answers.Ring.{Ring}
-use Rattle.circle_run.specs.Moves.{did}
-use Rattle.circle_run.specs.Private.Steps.{Heard}
+use Rattle.circle_run.proofs.Prelude.{ap, sym, refl, subst, rules, [], ◌∷◌, Shown, see_over, Ring, did, Heard}
 use Rattle.circle_run.proofs.Called.{came_idle}
 use Rattle.circle_run.proofs.Hearing.{halt_read, knows_read}
 use Rattle.circle_run.proofs.ranks.RankState.hear.Goals as goal

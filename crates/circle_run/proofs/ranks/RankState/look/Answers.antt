@@ -1,11 +1,5 @@
-use Rattle.std.proofs.Common.{◌≡◌, ℕ, ap, ◌∙◌, refl, inl, inr, ⊎_elim, subst, arith, rules, List, [], ◌∷◌, ◌++◌, length}
-use Rattle.post_board.specs.Shown.{Shown, victim_of, with_taken}
-use Rattle.post_board.specs.Deeds.{take, take_none, withdraw}
-use Rattle.circle_run.specs.Moves.{did, noted}
-use Rattle.ring_core.specs.declared.events.Event.TheVariants.{Take}
-use Rattle.circle_run.specs.Private.Books.{Writes}
-use Rattle.circle_run.specs.Choices.{to_look}
-use Rattle.circle_run.specs.Private.Steps.{Follows}
+use Rattle.circle_run.proofs.Prelude.{◌≡◌, ℕ, ap, ◌∙◌, refl, inl, inr, ⊎_elim, subst, arith, rules, List, [], ◌∷◌, ◌++◌, length, Shown, victim_of, with_taken}
+use Rattle.circle_run.proofs.Prelude.{take, take_none, withdraw, did, noted, Take, Writes, to_look, Follows}
 use Rattle.circle_run.specs.declared.steps.Did.TheVariants.{Acted as DidAct}
 use Rattle.circle_run.proofs.Called.{came_called, came_did}
 use Rattle.circle_run.proofs.Stepped.{tells_as, late_as, went_did, went_withdrew, victim_is, waiting_told}

@@ -1,7 +1,4 @@
-use Rattle.std.proofs.Common.{ap, sym, ◌∙◌, refl, arith, rules}
-use Rattle.ring_core.specs.declared.states.Colour.{Colour}
-use Rattle.post_board.specs.Shown.{Shown, mixed}
-use Rattle.post_board.specs.Deeds.{pass, restart, conclude}
+use Rattle.circle_run.proofs.Prelude.{ap, sym, ◌∙◌, refl, arith, rules, Colour, Shown, mixed, pass, restart, conclude}
 use Rattle.circle_run.proofs.Stepped.{tells_as, mixed_is}
 use Rattle.circle_run.proofs.Hearing.{moved_above, moved_black, moved_white}
 use Rattle.circle_run.proofs.Moving.{came_moved}

@@ -1,8 +1,4 @@
-use Rattle.std.proofs.Common.{◌≢◌, ℕ, ap, sym, ◌∙◌, subst, arith, None}
-use Rattle.std.proofs.lemmas.Bool.{ltb-true, ltb-false}
-use Rattle.circle_run.specs.Moves.{amounts, IsHalted}
-use Rattle.circle_run.specs.declared.settings.Options.{Options}
-use Rattle.circle_run.specs.Private.Services.{Fits}
+use Rattle.circle_run.proofs.Prelude.{◌≢◌, ℕ, ap, sym, ◌∙◌, subst, arith, None, ltb-true, ltb-false, amounts, IsHalted, Options, Fits}
 use Rattle.circle_run.proofs.Asked.{nobody, none_left}
 use Rattle.circle_run.proofs.Services.{serving_none, serving_more, came_served}
 use Rattle.circle_run.proofs.ranks.RankState.serve.Goals as goal

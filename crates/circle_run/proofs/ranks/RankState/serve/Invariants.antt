@@ -1,4 +1,4 @@
-use Rattle.circle_run.specs.Private.Services.{Serving}
+use Rattle.circle_run.proofs.Prelude.{Serving}
 use Rattle.circle_run.proofs.ranks.RankState.serve.Given as goal
 
 abbrev pub invariant-loop-k : goal.invariant-loop-k

@@ -1,4 +1,5 @@
-use Rattle.std.proofs.Common.{ap, ◌∙◌, arith, take}
+use Rattle.circle_run.proofs.Prelude.{ap, ◌∙◌, arith}
+use Rattle.std.proofs.Common.{take}
 use Rattle.circle_run.proofs.Asked.{all_asked}
 use Rattle.circle_run.proofs.Requests.{taken_room, taken_less, taken_more, taken_none}
 use Rattle.circle_run.proofs.ranks.RankState.take_up.Goals as goal

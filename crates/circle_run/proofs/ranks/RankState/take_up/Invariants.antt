@@ -1,4 +1,4 @@
-use Rattle.circle_run.specs.Private.Services.{Taken, unserved}
+use Rattle.circle_run.proofs.Prelude.{Taken, unserved}
 use Rattle.circle_run.proofs.ranks.RankState.take_up.Given as goal
 
 abbrev pub invariant-loop-to : goal.invariant-loop-to

@@ -1,7 +1,4 @@
-use Rattle.std.proofs.Common.{◌≡◌, ℕ, ◌+◌, ◌-◌, ◌^◌, min, ap, sym, ◌∙◌, subst, arith}
-use Rattle.sum_tree.specs.Shown.{SumShown, IsLeaf}
-use Rattle.circle_run.specs.Private.Steps.{tallied}
-use Rattle.circle_run.specs.declared.steps.Did.{Did}
+use Rattle.circle_run.proofs.Prelude.{◌≡◌, ℕ, ◌+◌, ◌-◌, ◌^◌, min, ap, sym, ◌∙◌, subst, arith, SumShown, IsLeaf, tallied, Did}
 use Rattle.circle_run.proofs.Adding.{adds_up_raised}
 use Rattle.circle_run.proofs.Tallied.{tallied_more, none_tallied}
 use Rattle.circle_run.proofs.ranks.RankState.tally.Goals as goal

@@ -1,8 +1,4 @@
-use Rattle.std.proofs.Common.{ap, sym, refl, rules}
-use Rattle.post_board.specs.Shown.{Shown}
-use Rattle.post_board.specs.Deeds.{halt}
-use Rattle.circle_run.specs.Choices.{halt_if}
-use Rattle.circle_run.specs.Private.Steps.{Halts}
+use Rattle.circle_run.proofs.Prelude.{ap, sym, refl, rules, Shown, halt, halt_if, Halts}
 use Rattle.circle_run.proofs.Winding.{halt_told}
 use Rattle.circle_run.proofs.Called.{came_noted}
 use Rattle.circle_run.proofs.ranks.RankState.tell_halt.Goals as goal

@@ -1,6 +1,4 @@
-use Rattle.std.proofs.Common.{ap, sym, ◌∙◌, subst}
-use Rattle.circle_run.specs.Private.Steps.{Came, WoundUp}
-use Rattle.circle_run.specs.declared.steps.Did.{Did}
+use Rattle.circle_run.proofs.Prelude.{ap, sym, ◌∙◌, subst, Came, WoundUp, Did}
 use Rattle.circle_run.proofs.Winding.{halted_now, knows_now, came_closed, halted_served, refuses_all, gives_none}
 use Rattle.circle_run.proofs.Stepped.{handled_before}
 use Rattle.circle_run.proofs.ranks.RankState.wind_up.Goals as goal

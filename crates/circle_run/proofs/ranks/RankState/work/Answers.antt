@@ -1,11 +1,5 @@
-use Rattle.std.proofs.Common.{◌≡◌, ℕ, ◌+◌, ap, sym, ◌∙◌, subst, length, Bool, true, false, refl, Some}
-use Rattle.circle_run.specs.declared.settings.Options.{Options}
-use Rattle.circle_run.specs.Private.Steps.{Came, Halts, halts_by}
-use Rattle.circle_run.specs.Turns.{Waits}
-use Rattle.circle_run.specs.Moves.{MayHandle}
-use Rattle.circle_run.specs.Choices.{is_due}
-use Rattle.circle_run.specs.Private.Steps.{Works}
-use Rattle.circle_run.specs.declared.steps.Did.{Did}
+use Rattle.circle_run.proofs.Prelude.{◌≡◌, ℕ, ◌+◌, ap, sym, ◌∙◌, subst, length, Bool, true, false, refl, Some, Options, Came, Halts, halts_by, Waits, MayHandle}
+use Rattle.circle_run.proofs.Prelude.{is_due, Works, Did}
 use Rattle.circle_run.proofs.Stepped.{waited_alone, handled_still, handled_before, stopped_before}
 use Rattle.circle_run.proofs.Choosing.{came_on, came_worked, came_wound}
 use Rattle.circle_run.proofs.Hearing.{halts_is, first_is, due_first, goes_neither, halt_unless_first, not_halted_ring}

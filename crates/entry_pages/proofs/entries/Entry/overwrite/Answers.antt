@@ -1,4 +1,4 @@
-use Rattle.std.proofs.lemmas.Str.{is_utf8-from_IsUtf8}
+use Rattle.entry_pages.proofs.Prelude.{is_utf8-from_IsUtf8}
 use Rattle.entry_pages.proofs.entries.Entry.overwrite.Goals as goal
 
 pub rewrite-requires-clause-text : goal.rewrite-requires-clause-text

@@ -1,6 +1,4 @@
-use Rattle.std.proofs.Common.{◌∙◌, ℕ, ◌+◌, ◌%◌, ◌++◌, List, length, map, ap, ap₂, arith}
-use Rattle.entry_pages.specs.Pack.{Head}
-use Rattle.entry_pages.specs.Private.Slim.{odd_count, text_len, heads_of}
+use Rattle.entry_pages.proofs.Prelude.{◌∙◌, ℕ, ◌+◌, ◌%◌, ◌++◌, List, length, map, ap, ap₂, arith, Head, odd_count, text_len, heads_of}
 use Rattle.entry_pages.proofs.Appended.{Both, starts_fit, all_odds, all_texts, heads_both, slims_put}
 use Rattle.entry_pages.proofs.heads.Heads.append.Goals as goal
 use Rattle.entry_pages.proofs.heads.Heads.append.Goals.{After-put_shifted-2}

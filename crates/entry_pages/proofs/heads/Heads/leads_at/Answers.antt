@@ -1,4 +1,4 @@
-use Rattle.std.proofs.Common.{arith, ap, length, rules}
+use Rattle.entry_pages.proofs.Prelude.{arith, ap, length, rules}
 use Rattle.entry_pages.proofs.Slimmed.{lead_at, lead_same}
 use Rattle.entry_pages.proofs.heads.Heads.leads_at.Goals as goal
 

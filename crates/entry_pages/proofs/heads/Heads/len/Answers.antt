@@ -1,4 +1,4 @@
-use Rattle.std.proofs.Common.{ap, length, arith}
+use Rattle.entry_pages.proofs.Prelude.{ap, length, arith}
 use Rattle.entry_pages.proofs.Slimmed.{slim_long}
 use Rattle.entry_pages.proofs.heads.Heads.len.Goals as goal
 

@@ -1,6 +1,4 @@
-use Rattle.std.proofs.Common.{◌∙◌, ap, List, ℕ, [], ◌∷◌, ◌++◌}
-use Rattle.entry_pages.specs.Pack.{Head, starts_by}
-use Rattle.entry_pages.specs.Private.Slim.{with_text, target_bytes}
+use Rattle.entry_pages.proofs.Prelude.{◌∙◌, ap, List, ℕ, [], ◌∷◌, ◌++◌, Head, starts_by, with_text, target_bytes}
 use Rattle.entry_pages.proofs.Slimmed.{ArePut, put_slim, put_heads}
 use Rattle.entry_pages.proofs.heads.Heads.push.Goals as goal
 use Rattle.entry_pages.proofs.heads.Heads.push.Goals.{After-put_target}

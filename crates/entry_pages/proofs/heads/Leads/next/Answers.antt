@@ -1,11 +1,4 @@
-use Rattle.std.proofs.Common.{◌≡◌, ◌∙◌, ◌<◌, ℕ, List, length, subst, sym, ap, false}
-use Rattle.std.specs.Prelude.{Some, slice_get}
-use Rattle.std.specs.Option.{option_map}
-use Rattle.entry_pages.specs.declared.entries.Mark.TheVariants.{Fine}
-use Rattle.entry_pages.specs.Pack.{Head}
-use Rattle.entry_pages.specs.declared.slims.Slim.{Slim}
-use Rattle.entry_pages.specs.declared.slims.Shown.TheVariants.{Nothing}
-use Rattle.entry_pages.specs.Private.Slim.{with_text}
+use Rattle.entry_pages.proofs.Prelude.{◌≡◌, ◌∙◌, ◌<◌, ℕ, List, length, subst, sym, ap, false, Some, slice_get, option_map, Fine, Head, Slim, Nothing, with_text}
 use Rattle.entry_pages.proofs.Slimmed.{lead_next}
 use Rattle.entry_pages.proofs.heads.Leads.next.Goals as goal
 

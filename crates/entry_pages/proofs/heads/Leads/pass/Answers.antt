@@ -1,8 +1,4 @@
-use Rattle.std.proofs.Common.{◌<◌, ℕ, List, length, subst, sym, false}
-use Rattle.entry_pages.specs.declared.entries.Mark.TheVariants.{Fine}
-use Rattle.entry_pages.specs.Pack.{Head}
-use Rattle.entry_pages.specs.declared.slims.Slim.{Slim}
-use Rattle.entry_pages.specs.declared.slims.Shown.TheVariants.{Nothing}
+use Rattle.entry_pages.proofs.Prelude.{◌<◌, ℕ, List, length, subst, sym, false, Fine, Head, Slim, Nothing}
 use Rattle.entry_pages.proofs.Slimmed.{lead_next}
 use Rattle.entry_pages.proofs.heads.Leads.pass.Goals as goal
 

@@ -1,8 +1,4 @@
-use Rattle.std.proofs.Common.{◌≡◌, ◌∙◌, arith, subst, List, [], ◌∷◌, ◌++◌}
-use Rattle.std.specs.Prelude.{OnOk}
-use Rattle.entry_pages.specs.Private.Slim.{with_text}
-use Rattle.entry_pages.specs.declared.entries.Entry.{Entry}
-use Rattle.entry_pages.specs.Pack.{shared_by, unpacked}
+use Rattle.entry_pages.proofs.Prelude.{◌≡◌, ◌∙◌, arith, subst, List, [], ◌∷◌, ◌++◌, OnOk, with_text, Entry, shared_by, unpacked}
 use Rattle.entry_pages.proofs.Inverse.{IsPut, path_is, put_same, is_put, put_kept, put_told}
 use Rattle.entry_pages.proofs.pages.Pages.add.Goals as goal
 use Rattle.entry_pages.proofs.pages.Pages.add.Goals.{After-put}

@@ -1,7 +1,4 @@
-use Rattle.std.proofs.Common.{◌∙◌, ℕ, ◌+◌, ◌<◌, ◌%◌, ◌++◌, List, length, map, ap, ap₂, sym, subst, arith}
-use Rattle.std.proofs.lemmas.Bool.Decides.{nat_tests}
-use Rattle.entry_pages.specs.declared.entries.Entry.{Entry}
-use Rattle.entry_pages.specs.Pack.{Head}
+use Rattle.entry_pages.proofs.Prelude.{◌∙◌, ℕ, ◌+◌, ◌<◌, ◌%◌, ◌++◌, List, length, map, ap, ap₂, sym, subst, arith, nat_tests, Entry, Head}
 use Rattle.entry_pages.proofs.Inverse.{kept_many, all_rests}
 use Rattle.entry_pages.proofs.Appended.{starts_fit, ArePut, kept_put, told_put}
 use Rattle.entry_pages.proofs.pages.Pages.append.Goals as goal

@@ -1,4 +1,4 @@
-use Rattle.std.proofs.Common.{◌∙◌, ap, length}
+use Rattle.entry_pages.proofs.Prelude.{◌∙◌, ap, length}
 use Rattle.entry_pages.proofs.Inverse.{kept_many}
 use Rattle.entry_pages.proofs.pages.Pages.len.Goals as goal
 

@@ -1,6 +1,5 @@
-use Rattle.std.proofs.Common.{◌≡◌, ◌+◌, ◌*◌, ◌<◌, ◌∙◌, arith, rules, ap, sym, subst, length, List, [], take, drop, get_or, ◌-◌}
-use Rattle.entry_pages.specs.declared.entries.Entry.{Entry}
-use Rattle.entry_pages.specs.Pack.{page_of, unpacked}
+use Rattle.entry_pages.proofs.Prelude.{◌≡◌, ◌+◌, ◌*◌, ◌<◌, ◌∙◌, arith, rules, ap, sym, subst, length, List, [], take, drop, get_or, ◌-◌, Entry, page_of}
+use Rattle.entry_pages.proofs.Prelude.{unpacked}
 use Rattle.entry_pages.proofs.Paged.{IsPage, has_page, page_told}
 use Rattle.entry_pages.proofs.pages.Pages.page.Goals as goal
 use Rattle.entry_pages.proofs.pages.Pages.page.Goals.{After-begin_of-end}

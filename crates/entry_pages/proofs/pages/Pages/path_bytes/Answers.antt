@@ -1,8 +1,4 @@
-use Rattle.std.proofs.Common.{◌∙◌, ap, sym, length, List, ℕ, []}
-use Rattle.std.specs.List.{sum_by}
-use Rattle.entry_pages.specs.declared.entries.Entry.{Entry}
-use Rattle.entry_pages.specs.Pack.{Head}
-use Rattle.entry_pages.specs.Pack.{path_len, unpacked}
+use Rattle.entry_pages.proofs.Prelude.{◌∙◌, ap, sym, length, List, ℕ, [], sum_by, Entry, Head, path_len, unpacked}
 use Rattle.entry_pages.proofs.Inverse.{paths_many}
 use Rattle.entry_pages.proofs.pages.Pages.path_bytes.Goals as goal
 

@@ -1,7 +1,5 @@
-use Rattle.std.proofs.Common.{◌≡◌, None, subst}
-use Rattle.std.specs.List.{All}
-use Rattle.path_text.specs.Path.{refusal}
-use Rattle.entry_pages.specs.declared.entries.Entry.{Entry}
+use Rattle.entry_pages.proofs.Prelude.{◌≡◌, subst, All, refusal, Entry}
+use Rattle.std.proofs.Common.{None}
 use Rattle.entry_pages.proofs.Passed.{all_valid}
 use Rattle.entry_pages.proofs.pages.Pages.paths_are_valid.Goals as goal
 

@@ -1,6 +1,4 @@
-use Rattle.std.proofs.Common.{ℕ, List, [], sym, ap, subst, ◌∙◌}
-use Rattle.entry_pages.specs.Pack.{unpacked, place_of}
-use Rattle.entry_pages.specs.Private.Kept.{IsSeek}
+use Rattle.entry_pages.proofs.Prelude.{ℕ, List, [], sym, ap, subst, ◌∙◌, unpacked, place_of, IsSeek}
 use Rattle.entry_pages.proofs.Sought.{seek_first}
 use Rattle.entry_pages.proofs.pages.Pages.place_of.Goals as goal
 

@@ -1,8 +1,4 @@
-use Rattle.std.proofs.Common.{◌≡◌, ◌-◌, ◌/◌, ◌∙◌, ℕ, arith, rules, ap, sym, length, List, []}
-use Rattle.std.specs.Prelude.{slice_get}
-use Rattle.entry_pages.specs.declared.entries.Entry.{Entry}
-use Rattle.entry_pages.specs.Pack.{Head}
-use Rattle.entry_pages.specs.Pack.{unpacked}
+use Rattle.entry_pages.proofs.Prelude.{◌≡◌, ◌-◌, ◌/◌, ◌∙◌, ℕ, arith, rules, ap, sym, length, List, [], slice_get, Entry, Head, unpacked}
 use Rattle.entry_pages.proofs.Inverse.{kept_many}
 use Rattle.entry_pages.proofs.Passed.{before_pair}
 use Rattle.entry_pages.proofs.Paged.{has_page, before_entry}

@@ -1,5 +1,4 @@
-use Rattle.std.proofs.Common.{◌≡◌, ◌+◌, ◌-◌, ◌*◌, ◌/◌, ◌<◌}
-use Rattle.std.specs.Prelude.{slice_get, Some}
+use Rattle.entry_pages.proofs.Prelude.{◌≡◌, ◌+◌, ◌-◌, ◌*◌, ◌/◌, ◌<◌, slice_get, Some}
 use Rattle.entry_pages.proofs.pages.Pages.reader_behind.Given as goal
 
 abbrev pub invariant-loop : goal.invariant-loop

@@ -1,11 +1,5 @@
-use Rattle.std.proofs.Common.{◌≡◌, ◌∙◌, ℕ, ◌+◌, ◌-◌, ◌<◌, ap, sym, subst, refl, arith, length, take, drop, List}
-use Rattle.std.specs.Prelude.{Some, slice_get}
-use Rattle.std.specs.Ordering.{is_lt}
-use Rattle.path_text.specs.Order.{path_cmp}
-use Rattle.std.specs.Option.{option_map}
-use Rattle.entry_pages.specs.Private.Slim.{with_text}
-use Rattle.entry_pages.specs.declared.entries.Entry.{Entry}
-use Rattle.entry_pages.specs.Pack.{RisesAt}
+use Rattle.entry_pages.proofs.Prelude.{◌≡◌, ◌∙◌, ℕ, ◌+◌, ◌-◌, ◌<◌, ap, sym, subst, refl, arith, length, take, drop, List, Some, slice_get, is_lt, path_cmp}
+use Rattle.entry_pages.proofs.Prelude.{option_map, with_text, Entry, RisesAt}
 use Rattle.entry_pages.proofs.Passed.{step, rises_next}
 use Rattle.entry_pages.proofs.passing.Reader.falls.Goals as goal
 

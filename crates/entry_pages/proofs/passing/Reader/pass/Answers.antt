@@ -1,8 +1,4 @@
-use Rattle.std.proofs.Common.{◌≡◌, ℕ, arith, subst, List}
-use Rattle.std.specs.Prelude.{Some, slice_get}
-use Rattle.std.specs.Option.{option_map}
-use Rattle.entry_pages.specs.Private.Slim.{with_text}
-use Rattle.entry_pages.specs.declared.entries.Entry.{Entry}
+use Rattle.entry_pages.proofs.Prelude.{◌≡◌, ℕ, arith, subst, List, Some, slice_get, option_map, with_text, Entry}
 use Rattle.entry_pages.proofs.Passed.{step, targeted, made_path, made_next, made_here, at_pair}
 use Rattle.entry_pages.proofs.passing.Reader.pass.Goals as goal
 

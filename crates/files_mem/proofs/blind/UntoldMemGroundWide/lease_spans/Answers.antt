@@ -1,7 +1,4 @@
-use Rattle.std.proofs.Common.{map, ap, ◌∙◌, sym, subst, ◌≡◌}
-use Rattle.std.specs.Prelude.{All}
-use Rattle.outside.specs.Spans.{pieces}
-use Rattle.files_mem.specs.Spanned.{Spanned, piece_of, held_by}
+use Rattle.files_mem.proofs.Prelude.{map, ap, ◌∙◌, sym, subst, ◌≡◌, All, pieces, Spanned, piece_of, held_by}
 use Rattle.files_mem.proofs.Spanning.{blank_pieces, blank_hides, blank_zero}
 use Rattle.files_mem.proofs.blind.UntoldMemGroundWide.lease_spans.Goals as goal
 

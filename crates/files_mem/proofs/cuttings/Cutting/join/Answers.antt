@@ -1,13 +1,7 @@
-use Rattle.std.proofs.Common.{◌≡◌, true, ap, ◌∙◌, sym, subst, arith, length, ◌∷◌, []}
-use Rattle.std.specs.List.{sum_by}
-use Rattle.outside.specs.Parts.{IsPart}
-use Rattle.outside.specs.Tree.{is_file, content}
-use Rattle.outside.specs.Spans.{Piece, pieces}
-use Rattle.outside.specs.Writes.{Cut}
-use Rattle.files_mem.specs.Spanned.{Spanned, bytes_of_all}
+use Rattle.files_mem.proofs.Prelude.{◌≡◌, true, ap, ◌∙◌, sym, subst, arith, length, ◌∷◌, [], sum_by, IsPart, is_file, content, Piece, pieces, Cut, Spanned}
+use Rattle.files_mem.proofs.Prelude.{bytes_of_all, get}
 use Rattle.files_mem.proofs.Spanning.{sizes}
 use Rattle.files_mem.proofs.CutOut.{set_part, set_node}
-use Rattle.std.specs.FinMap.{get}
 use Rattle.files_mem.proofs.cuttings.Cutting.join.Goals as goal
 
 pub fill-requires-clause-room : goal.fill-requires-clause-room

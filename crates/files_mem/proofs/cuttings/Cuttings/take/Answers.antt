@@ -1,5 +1,4 @@
-use Rattle.std.proofs.Common.{◌≡◌, ap, sym, ◌∙◌, is_some}
-use Rattle.outside.proofs.Cuts.{first_index, first_found, is_first, rest_there, told_there}
+use Rattle.files_mem.proofs.Prelude.{◌≡◌, ap, sym, ◌∙◌, is_some, first_index, first_found, is_first, rest_there, told_there}
 use Rattle.files_mem.proofs.cuttings.Cuttings.take.Goals.{After-remove}
 use Rattle.files_mem.proofs.cuttings.Cuttings.take.Goals as goal
 

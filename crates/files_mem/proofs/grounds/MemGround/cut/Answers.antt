@@ -1,9 +1,4 @@
-use Rattle.std.proofs.Common.{◌≡◌, [], ap, ◌∙◌, sym, subst, true}
-use Rattle.std.specs.Prelude.{IsTrue}
-use Rattle.std.specs.FinMap.{get}
-use Rattle.outside.specs.Tree.{is_file, content}
-use Rattle.outside.specs.Writes.{is_open}
-use Rattle.files_mem.specs.PrivateHeld.{IsGround}
+use Rattle.files_mem.proofs.Prelude.{◌≡◌, [], ap, ◌∙◌, sym, subst, true, IsTrue, get, is_file, content, is_open, IsGround}
 use Rattle.files_mem.proofs.CutOut.{cut_all, cut_node, answered_same}
 use Rattle.files_mem.proofs.Lending.{cut_ground}
 use Rattle.files_mem.proofs.grounds.MemGround.cut.Goals as goal

@@ -1,6 +1,4 @@
-use Rattle.std.proofs.Common.{rules, ◌≡◌, sym, subst, []}
-use Rattle.files_mem.specs.Memory.{empty_files}
-use Rattle.files_mem.specs.PrivateHeld.{IsGround}
+use Rattle.files_mem.proofs.Prelude.{rules, ◌≡◌, sym, subst, [], empty_files, IsGround}
 use Rattle.files_mem.proofs.Treed.{empty_tree}
 use Rattle.files_mem.proofs.grounds.MemGround.empty.Goals as goal
 

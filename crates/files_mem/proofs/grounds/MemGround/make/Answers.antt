@@ -1,10 +1,4 @@
-use Rattle.std.proofs.Common.{rules, ◌≡◌, sym, ap, ◌∙◌, false, subst}
-use Rattle.std.specs.Prelude.{Err}
-use Rattle.std.specs.FinMap.{insert}
-use Rattle.outside.specs.Writes.{make_refusal}
-use Rattle.files_mem.specs.Memory.{Acts, answered, write_error}
-use Rattle.files_mem.specs.Planned.{is_planned}
-use Rattle.files_mem.specs.Stored.{node_of}
+use Rattle.files_mem.proofs.Prelude.{rules, ◌≡◌, sym, ap, ◌∙◌, false, subst, Err, insert, make_refusal, Acts, answered, write_error, is_planned, node_of}
 use Rattle.files_mem.proofs.Acting.{ground_refused}
 use Rattle.files_mem.proofs.grounds.MemGround.make.Goals as goal
 

@@ -1,9 +1,4 @@
-use Rattle.std.proofs.Common.{◌≡◌, None, sym, ap, ◌∙◌, false}
-use Rattle.std.specs.Prelude.{Ok}
-use Rattle.std.specs.FinMap.{insert}
-use Rattle.files_mem.specs.Memory.{put_refusal_at}
-use Rattle.files_mem.specs.Stored.{node_of}
-use Rattle.files_mem.specs.PrivateHeld.{Lending}
+use Rattle.files_mem.proofs.Prelude.{◌≡◌, None, sym, ap, ◌∙◌, false, Ok, insert, put_refusal_at, node_of, Lending}
 use Rattle.files_mem.proofs.Lending.{put_ground}
 use Rattle.files_mem.proofs.grounds.MemGround.put.Goals as goal
 

@@ -1,9 +1,4 @@
-use Rattle.std.proofs.Common.{rules, ◌≡◌, sym, ap, ◌∙◌, subst, true, cond}
-use Rattle.std.specs.FinMap.{get}
-use Rattle.outside.specs.Lease.{in_tops, is_out, tops_of}
-use Rattle.outside.specs.Writes.{all_but, under}
-use Rattle.outside.specs.Laid.{get_laid}
-use Rattle.files_mem.specs.PrivateHeld.{IsGround}
+use Rattle.files_mem.proofs.Prelude.{rules, ◌≡◌, sym, ap, ◌∙◌, subst, true, cond, get, in_tops, is_out, tops_of, all_but, under, get_laid, IsGround}
 use Rattle.files_mem.proofs.Lending.{back_ground}
 use Rattle.files_mem.proofs.grounds.MemGroundGround.give_back.Goals as goal
 

@@ -1,7 +1,4 @@
-use Rattle.std.proofs.Common.{sym, ap, subst}
-use Rattle.outside.specs.Lease.{CanLease, HaveParents}
-use Rattle.outside.specs.Parts.{IsPart}
-use Rattle.files_mem.specs.PrivateHeld.{IsGround}
+use Rattle.files_mem.proofs.Prelude.{sym, ap, subst, CanLease, HaveParents, IsPart, IsGround}
 use Rattle.files_mem.proofs.Lending.{lease_ground}
 use Rattle.files_mem.proofs.grounds.MemGroundGround.lease.Goals as goal
 

@@ -1,11 +1,5 @@
-use Rattle.std.proofs.Common.{◌≡◌, None, sym, ap, ◌∙◌, false, subst}
-use Rattle.std.specs.Prelude.{Ok, IsTrue}
-use Rattle.std.specs.FinMap.{remove}
-use Rattle.outside.specs.Writes.{is_open, remove_dir_refusal}
+use Rattle.files_mem.proofs.Prelude.{◌≡◌, None, sym, ap, ◌∙◌, false, subst, Ok, IsTrue, remove, is_open, remove_dir_refusal, answered, is_planned, Lending}
 use Rattle.files_mem.specs.declared.plans.Call.TheVariants as call
-use Rattle.files_mem.specs.Memory.{answered}
-use Rattle.files_mem.specs.Planned.{is_planned}
-use Rattle.files_mem.specs.PrivateHeld.{Lending}
 use Rattle.files_mem.proofs.Lending.{remove_dir_ground}
 use Rattle.files_mem.proofs.grounds.MemGroundPlot.remove_dir.Goals as goal
 

@@ -1,11 +1,6 @@
-use Rattle.std.proofs.Common.{◌≡◌, None, sym, ap, ◌∙◌, false, subst}
-use Rattle.std.specs.Prelude.{Ok, IsTrue}
-use Rattle.std.specs.FinMap.{get, remove}
-use Rattle.outside.specs.Writes.{is_open, remove_file_refusal}
+use Rattle.files_mem.proofs.Prelude.{◌≡◌, None, sym, ap, ◌∙◌, false, subst, Ok, IsTrue, get, remove, is_open, remove_file_refusal, answered, is_planned}
+use Rattle.files_mem.proofs.Prelude.{Lending}
 use Rattle.files_mem.specs.declared.plans.Call.TheVariants as call
-use Rattle.files_mem.specs.Memory.{answered}
-use Rattle.files_mem.specs.Planned.{is_planned}
-use Rattle.files_mem.specs.PrivateHeld.{Lending}
 use Rattle.files_mem.proofs.Lending.{remove_file_ground}
 use Rattle.files_mem.proofs.grounds.MemGroundPlot.remove_file.Goals as goal
 

@@ -1,8 +1,4 @@
-use Rattle.std.proofs.Common.{◌≡◌, None, sym, ap, ◌∙◌}
-use Rattle.std.specs.Prelude.{Ok}
-use Rattle.std.specs.FinMap.{get}
-use Rattle.outside.specs.Writes.{write_refusal, written}
-use Rattle.files_mem.specs.PrivateHeld.{Lending}
+use Rattle.files_mem.proofs.Prelude.{◌≡◌, None, sym, ap, ◌∙◌, Ok, get, write_refusal, written, Lending}
 use Rattle.files_mem.proofs.Lending.{write_ground}
 use Rattle.files_mem.proofs.grounds.MemGroundPlot.write_at.Goals as goal
 

@@ -1,5 +1,4 @@
-use Rattle.std.proofs.Common.{sym, subst}
-use Rattle.outside.specs.Spans.{IsRejoined}
+use Rattle.files_mem.proofs.Prelude.{sym, subst, IsRejoined}
 use Rattle.files_mem.proofs.Spanning.{told_all}
 use Rattle.files_mem.proofs.grounds.MemGroundWide.give_back_spans.Goals as goal
 

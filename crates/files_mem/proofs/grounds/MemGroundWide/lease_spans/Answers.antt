@@ -1,4 +1,4 @@
-use Rattle.outside.specs.Spans.{pieces}
+use Rattle.files_mem.proofs.Prelude.{pieces}
 use Rattle.files_mem.proofs.Spanning.{lent_pieces, lent_zeros, lent_uncounted}
 use Rattle.files_mem.proofs.grounds.MemGroundWide.lease_spans.Goals as goal
 

@@ -1,5 +1,4 @@
-use Rattle.std.proofs.Common.{◌≤◌, ◌+◌, arith, length}
-use Rattle.std.specs.Vec.{vec_len, vec_capacity}
+use Rattle.files_mem.proofs.Prelude.{◌≤◌, ◌+◌, arith, length, vec_len, vec_capacity}
 use Rattle.files_mem.proofs.Cuts.{cut_room}
 use Rattle.files_mem.proofs.held.Held.cut_out.Goals as goal
 

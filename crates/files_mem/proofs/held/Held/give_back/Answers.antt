@@ -1,8 +1,4 @@
-use Rattle.std.proofs.Common.{◌≡◌, ◌≤◌, ◌+◌, sym, ap, arith, length, subst, true}
-use Rattle.std.specs.List.{list_any}
-use Rattle.std.specs.Arc.{arc_value}
-use Rattle.std.specs.Vec.{vec_len, vec_capacity}
-use Rattle.outside.specs.Lease.{same_tops}
+use Rattle.files_mem.proofs.Prelude.{◌≡◌, ◌≤◌, ◌+◌, sym, ap, arith, length, subst, true, list_any, arc_value, vec_len, vec_capacity, same_tops}
 use Rattle.files_mem.proofs.Laying.{given_back, one_less}
 use Rattle.files_mem.proofs.held.Held.give_back.Goals as goal
 

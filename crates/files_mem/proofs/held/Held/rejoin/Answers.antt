@@ -1,13 +1,5 @@
-use Rattle.std.proofs.Common.{◌≡◌, ◌≤◌, ◌+◌, ◌∷◌, [], sym, ap, ◌∙◌, arith, length, subst, true, is_some}
-use Rattle.std.specs.Arc.{arc_value}
-use Rattle.std.specs.Vec.{vec_len, vec_capacity}
-use Rattle.std.specs.FinMap.{get}
-use Rattle.outside.specs.Laid.{laid}
-use Rattle.outside.specs.Parts.{IsPart}
-use Rattle.outside.specs.Spans.{pieces, cuts_at, without_cut, IsRejoined}
-use Rattle.outside.specs.Tree.{is_file, content}
-use Rattle.files_mem.specs.PrivateHeld.{Lending, IsGround}
-use Rattle.files_mem.specs.Spanned.{bytes_of_all}
+use Rattle.files_mem.proofs.Prelude.{◌≡◌, ◌≤◌, ◌+◌, ◌∷◌, [], sym, ap, ◌∙◌, arith, length, subst, true, is_some, arc_value, vec_len, vec_capacity, get, laid}
+use Rattle.files_mem.proofs.Prelude.{IsPart, pieces, cuts_at, without_cut, IsRejoined, is_file, content, Lending, IsGround, bytes_of_all}
 use Rattle.files_mem.proofs.CutOut.{rejoined}
 use Rattle.files_mem.proofs.Cuts.{one_cut_less, some_mapped}
 use Rattle.files_mem.proofs.Laying.{file_back}

@@ -1,10 +1,5 @@
-use Rattle.std.proofs.Common.{rules, ◌≡◌, None, sym, ap, ◌∙◌, false, subst}
-use Rattle.std.specs.Prelude.{Ok, IsTrue}
-use Rattle.std.specs.FinMap.{insert}
-use Rattle.outside.specs.Writes.{under, is_top, is_open}
-use Rattle.files_mem.specs.Stored.{node_of}
-use Rattle.files_mem.specs.Planned.{is_planned}
-use Rattle.files_mem.specs.Memory.{answered, put_refusal_at}
+use Rattle.files_mem.proofs.Prelude.{rules, ◌≡◌, None, sym, ap, ◌∙◌, false, subst, Ok, IsTrue, insert, under, is_top, is_open, node_of, is_planned, answered}
+use Rattle.files_mem.proofs.Prelude.{put_refusal_at}
 use Rattle.files_mem.proofs.Acting.{made_refused, made_free}
 use Rattle.files_mem.proofs.Parted.{put_part}
 use Rattle.files_mem.proofs.parts.MemPart.make_node.Goals as goal

@@ -1,6 +1,4 @@
-use Rattle.std.proofs.Common.{rules, ◌≡◌, None}
-use Rattle.std.specs.Prelude.{Ok}
-use Rattle.outside.specs.Writes.{remove_dir_refusal}
+use Rattle.files_mem.proofs.Prelude.{rules, ◌≡◌, None, Ok, remove_dir_refusal}
 use Rattle.files_mem.proofs.Parted.{remove_dir_part}
 use Rattle.files_mem.proofs.parts.MemPartPlot.remove_dir.Goals as goal
 

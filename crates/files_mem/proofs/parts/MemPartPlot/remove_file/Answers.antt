@@ -1,7 +1,4 @@
-use Rattle.std.proofs.Common.{rules, ◌≡◌, None}
-use Rattle.std.specs.Prelude.{Ok}
-use Rattle.std.specs.FinMap.{get}
-use Rattle.outside.specs.Writes.{remove_file_refusal}
+use Rattle.files_mem.proofs.Prelude.{rules, ◌≡◌, None, Ok, get, remove_file_refusal}
 use Rattle.files_mem.proofs.Parted.{remove_file_part}
 use Rattle.files_mem.proofs.parts.MemPartPlot.remove_file.Goals as goal
 

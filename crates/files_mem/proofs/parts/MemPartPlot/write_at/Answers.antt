@@ -1,10 +1,6 @@
-use Rattle.std.proofs.Common.{rules, ◌≡◌, ◌≤◌, None, Some, sym, ap, ◌∙◌, true, false, length, subst}
-use Rattle.std.specs.Prelude.{Result, Ok, Err, OnOk}
-use Rattle.std.specs.FinMap.{get}
-use Rattle.outside.specs.Tree.{is_file, content}
-use Rattle.outside.specs.Writes.{write_refusal, written}
+use Rattle.files_mem.proofs.Prelude.{rules, ◌≡◌, ◌≤◌, None, Some, sym, ap, ◌∙◌, true, false, length, subst, Result, Ok, Err, OnOk, get, is_file, content}
+use Rattle.files_mem.proofs.Prelude.{write_refusal, written, is_planned}
 use Rattle.files_mem.specs.declared.plans.Call.TheVariants as call
-use Rattle.files_mem.specs.Planned.{is_planned}
 use Rattle.files_mem.proofs.Treed.{can_write}
 use Rattle.files_mem.proofs.Acting.{acts_refused, answers_refused, write_named, never_failed}
 use Rattle.files_mem.proofs.Parted.{write_part}

@@ -1,6 +1,4 @@
-use Rattle.std.proofs.Common.{rules, ◌≡◌, sym, subst}
-use Rattle.outside.specs.Tree.{AreNames, IsTree, names_in}
-use Rattle.outside.proofs.Names.{children_are_names}
+use Rattle.files_mem.proofs.Prelude.{rules, ◌≡◌, sym, subst, AreNames, IsTree, names_in, children_are_names}
 use Rattle.files_mem.proofs.readers.MemReaderTree.list.Goals as goal
 
 pub returns-clause-names : goal.returns-clause-names

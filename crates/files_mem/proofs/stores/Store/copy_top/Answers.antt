@@ -1,5 +1,4 @@
-use Rattle.std.proofs.Common.{rules, ap, ◌∙◌, length}
-use Rattle.std.specs.FinMap.{get}
+use Rattle.files_mem.proofs.Prelude.{rules, ap, ◌∙◌, length, get}
 use Rattle.files_mem.proofs.Copied.{copying_begins, copying_step, copying_off, copying_stops, copying_done, copying_lost, after_put}
 use Rattle.files_mem.proofs.stores.Store.copy_top.Goals as goal
 

@@ -1,4 +1,4 @@
-use Rattle.std.proofs.Common.{length}
+use Rattle.files_mem.proofs.Prelude.{length}
 use Rattle.files_mem.proofs.Copied.{Copying}
 use Rattle.files_mem.proofs.stores.Store.copy_top.Given as goal
 

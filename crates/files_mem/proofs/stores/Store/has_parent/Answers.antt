@@ -1,10 +1,5 @@
-use Rattle.std.proofs.Common.{◌≡◌, ◌≢◌, ◌⊎◌, inl, inr, ℕ, List, ap, ◌∙◌, sym, None, Some}
-use Rattle.std.proofs.lemmas.Bool.{false≢true}
-use Rattle.std.specs.FinMap.{get}
-use Rattle.outside.specs.Tree.{is_dir}
-use Rattle.path_text.specs.Path.{parent_of, refusal}
-use Rattle.path_text.specs.declared.errors.PathError.{PathError}
-use Rattle.path_text.specs.declared.errors.PathError.TheVariants.{OutOfMemory}
+use Rattle.files_mem.proofs.Prelude.{◌≡◌, ◌≢◌, ◌⊎◌, inl, inr, ℕ, List, ap, ◌∙◌, sym, None, Some, false≢true, get, is_dir, parent_of, refusal, PathError}
+use Rattle.files_mem.proofs.Prelude.{OutOfMemory}
 use Rattle.files_mem.proofs.Parent.{none_at}
 use Rattle.files_mem.proofs.stores.Store.has_parent.Goals as goal
 

@@ -1,7 +1,4 @@
-use Rattle.std.proofs.Common.{ap, ◌∙◌}
-use Rattle.std.specs.FinMap.{get}
-use Rattle.files_mem.specs.PrivateHeld.{copied}
-use Rattle.outside.specs.Lease.{in_tops}
+use Rattle.files_mem.proofs.Prelude.{ap, ◌∙◌, get, copied, in_tops}
 use Rattle.files_mem.proofs.Laying.{all_leased}
 use Rattle.files_mem.proofs.stores.Store.leased.Goals as goal
 

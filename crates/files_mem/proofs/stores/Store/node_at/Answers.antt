@@ -1,7 +1,4 @@
-use Rattle.std.proofs.Common.{sym, ap, ◌∙◌}
-use Rattle.std.specs.Option.{option_map}
-use Rattle.std.specs.FinMap.{get}
-use Rattle.files_mem.specs.Stored.{node_of}
+use Rattle.files_mem.proofs.Prelude.{sym, ap, ◌∙◌, option_map, get, node_of}
 use Rattle.files_mem.proofs.Found.{get_is}
 use Rattle.files_mem.proofs.stores.Store.node_at.Goals as goal
 

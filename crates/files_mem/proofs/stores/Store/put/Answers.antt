@@ -1,6 +1,4 @@
-use Rattle.std.proofs.Common.{ap, ◌∙◌}
-use Rattle.std.specs.FinMap.{insert}
-use Rattle.files_mem.specs.Stored.{node_of}
+use Rattle.files_mem.proofs.Prelude.{ap, ◌∙◌, insert, node_of}
 use Rattle.files_mem.proofs.Kept.{inserted, valid_insert}
 use Rattle.files_mem.proofs.stores.Store.put.Goals as goal
 

@@ -1,11 +1,4 @@
-use Rattle.std.proofs.Common.{rules, ap, ◌∙◌, sym}
-use Rattle.std.proofs.lemmas.Bool.{false≢true}
-use Rattle.std.specs.BTreeMap.{is_at}
-use Rattle.std.specs.FinMap.{insert}
-use Rattle.path_text.specs.Order.{path_cmp}
-use Rattle.outside.specs.Tree.{is_file, file}
-use Rattle.outside.specs.Writes.{time_of}
-use Rattle.files_mem.specs.Stored.{node_of}
+use Rattle.files_mem.proofs.Prelude.{rules, ap, ◌∙◌, sym, false≢true, is_at, insert, path_cmp, is_file, file, time_of, node_of}
 use Rattle.files_mem.proofs.Kept.{node_here, none_here, valid_set, inserted}
 use Rattle.files_mem.proofs.stores.Store.set_bytes.Goals as goal
 

@@ -1,7 +1,4 @@
-use Rattle.std.proofs.Common.{ap, ◌∙◌}
-use Rattle.std.specs.FinMap.{remove}
-use Rattle.std.specs.BTreeMap.{is_at}
-use Rattle.path_text.specs.Order.{path_cmp}
+use Rattle.files_mem.proofs.Prelude.{ap, ◌∙◌, remove, is_at, path_cmp}
 use Rattle.files_mem.proofs.Kept.{removed, valid_remove}
 use Rattle.files_mem.proofs.stores.Store.take.Goals as goal
 

@@ -1,5 +1,4 @@
-use Rattle.std.proofs.Common.{sym, ap, ◌∙◌, cond, is_some, None, length}
-use Rattle.std.specs.FinMap.{get}
+use Rattle.files_mem.proofs.Prelude.{sym, ap, ◌∙◌, cond, is_some, None, length, get}
 use Rattle.files_mem.proofs.Copied.{gone, gone_is, gone_step, gone_end}
 use Rattle.files_mem.proofs.stores.Store.take_all.Goals as goal
 

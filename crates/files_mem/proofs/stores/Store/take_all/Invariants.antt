@@ -1,5 +1,4 @@
-use Rattle.std.proofs.Common.{◌≡◌, ℕ, List, None, cond, length, is_some}
-use Rattle.std.specs.FinMap.{get}
+use Rattle.files_mem.proofs.Prelude.{◌≡◌, ℕ, List, None, cond, length, is_some, get}
 use Rattle.files_mem.proofs.Copied.{gone}
 use Rattle.files_mem.proofs.stores.Store.take_all.Given as goal
 

@@ -1,8 +1,4 @@
-use Rattle.std.proofs.Common.{rules, ◌≤◌, length, ap, ◌∙◌, sym, subst}
-use Rattle.std.proofs.lemmas.Bool.{false≢true}
-use Rattle.std.specs.BTreeMap.{is_at}
-use Rattle.path_text.specs.Order.{path_cmp}
-use Rattle.outside.specs.Tree.{is_file, content}
+use Rattle.files_mem.proofs.Prelude.{rules, ◌≤◌, length, ap, ◌∙◌, sym, subst, false≢true, is_at, path_cmp, is_file, content}
 use Rattle.files_mem.proofs.Kept.{node_here, none_here, valid_set, wrote, wrote_not}
 use Rattle.files_mem.proofs.stores.Store.write.Goals as goal
 

@@ -1,4 +1,4 @@
-use Rattle.std.proofs.Common.{◌∙◌}
+use Rattle.files_mem.proofs.Prelude.{◌∙◌}
 use Rattle.files_mem.proofs.Kept.{same_files, valid_copy}
 use Rattle.files_mem.proofs.stores.StoreClone.clone.Goals as goal
 

@@ -1,7 +1,5 @@
-use Rattle.std.proofs.Common.{◌≡◌, ◌-◌, ◌<◌, ◌∙◌, ℕ, List, [], ◌∷◌, ◌++◌, take, ap, sym, subst}
+use Rattle.flat_list.proofs.Prelude.{◌≡◌, ◌-◌, ◌<◌, ◌∙◌, ℕ, List, [], ◌∷◌, ◌++◌, take, ap, sym, subst, Entry, taken_last}
 use Rattle.std.specs.Prelude.{Some}
-use Rattle.entry_pages.specs.declared.entries.Entry.{Entry}
-use Rattle.entry_pages.proofs.Passed.{taken_last}
 use Rattle.flat_list.proofs.cursors.Cursor.entry.Goals as goal
 
 pub returns-clause-last : goal.returns-clause-last

@@ -1,7 +1,4 @@
-use Rattle.std.proofs.Common.{◌≡◌, ◌+◌, ◌-◌, ◌≤◌, ◌∙◌, ℕ, arith, ap, subst, length, List, inl, inr}
-use Rattle.std.proofs.lemmas.Bool.{cases_lt}
-use Rattle.entry_pages.specs.declared.entries.Entry.{Entry}
-use Rattle.entry_pages.specs.Pack.{RisesAt}
+use Rattle.flat_list.proofs.Prelude.{◌≡◌, ◌+◌, ◌-◌, ◌≤◌, ◌∙◌, ℕ, arith, ap, subst, length, List, inl, inr, cases_lt, Entry, RisesAt}
 use Rattle.flat_list.proofs.Turns.{no_more, step_more}
 use Rattle.flat_list.proofs.lists.FlatList.ascends.Goals as goal
 

@@ -1,5 +1,4 @@
-use Rattle.std.proofs.Common.{◌≡◌, ℕ, ◌-◌, ◌<◌, ◌≤◌, length}
-use Rattle.entry_pages.specs.Pack.{RisesAt}
+use Rattle.flat_list.proofs.Prelude.{◌≡◌, ℕ, ◌-◌, ◌<◌, ◌≤◌, length, RisesAt}
 use Rattle.flat_list.proofs.lists.FlatList.ascends.Given as goal
 
 -- no entry that was passed, and not the one behind them, comes before the one in front of it

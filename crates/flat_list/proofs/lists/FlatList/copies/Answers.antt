@@ -1,8 +1,6 @@
-use Rattle.std.proofs.Common.{◌++◌, ◌∷◌, [], ◌∙◌, refl, ap, sym, take, List}
-use Rattle.entry_pages.specs.declared.entries.Entry.{Entry}
+use Rattle.flat_list.proofs.Prelude.{◌++◌, ◌∷◌, [], ◌∙◌, refl, ap, sym, take, List, Entry, take_all}
 use Rattle.flat_list.proofs.Dealt.{taken}
 use Rattle.flat_list.proofs.Turns.{passes, turn_at, of_list, one_on, inside, no_more}
-use Rattle.std.proofs.lemmas.List.{take_all}
 use Rattle.flat_list.proofs.lists.FlatList.copies.Goals as goal
 
 pub loop-cursor-preserved : goal.loop-cursor-preserved

@@ -1,4 +1,4 @@
-use Rattle.std.proofs.Common.{◌≡◌, ◌-◌, ◌≤◌, length, take}
+use Rattle.flat_list.proofs.Prelude.{◌≡◌, ◌-◌, ◌≤◌, length, take}
 use Rattle.flat_list.proofs.lists.FlatList.copies.Given as goal
 
 -- copies of the entries that were passed

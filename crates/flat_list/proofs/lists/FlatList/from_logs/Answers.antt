@@ -1,4 +1,4 @@
-use Rattle.std.proofs.lemmas.List.Sorted.{IsPermutation-trans}
+use Rattle.flat_list.proofs.Prelude.{IsPermutation-trans}
 use Rattle.flat_list.proofs.lists.FlatList.from_logs.Goals as goal
 
 pub returns-clause-all : goal.returns-clause-all

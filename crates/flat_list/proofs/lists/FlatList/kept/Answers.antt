@@ -1,8 +1,4 @@
-use Rattle.std.proofs.Common.{◌≡◌, ◌∙◌, ℕ, arith, refl, ap, sym, subst, take, List, [], ◌∷◌, ◌++◌, of_calls}
-use Rattle.std.specs.Fn.{CalledAt}
-use Rattle.std.proofs.lemmas.Fn.{called_at}
-use Rattle.std.proofs.lemmas.List.{take_all}
-use Rattle.entry_pages.specs.declared.entries.Entry.{Entry}
+use Rattle.flat_list.proofs.Prelude.{◌≡◌, ◌∙◌, ℕ, arith, refl, ap, sym, subst, take, List, [], ◌∷◌, ◌++◌, of_calls, CalledAt, called_at, take_all, Entry}
 use Rattle.flat_list.proofs.Dealt.{taken}
 use Rattle.flat_list.proofs.Retained.{Kept, kept_none, kept_more, kept_all}
 use Rattle.flat_list.proofs.Turns.{passes, turn_at, of_list, one_on, inside, no_more}

@@ -1,5 +1,4 @@
-use Rattle.std.proofs.Common.{◌≡◌, ◌-◌, ◌≤◌, length, take}
-use Rattle.std.specs.Fn.{CalledAt}
+use Rattle.flat_list.proofs.Prelude.{◌≡◌, ◌-◌, ◌≤◌, length, take, CalledAt}
 use Rattle.flat_list.proofs.Retained.{Kept}
 use Rattle.flat_list.proofs.lists.FlatList.kept.Given as goal
 

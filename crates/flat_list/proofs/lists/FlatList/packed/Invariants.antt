@@ -1,4 +1,4 @@
-use Rattle.std.proofs.Common.{◌≡◌}
+use Rattle.flat_list.proofs.Prelude.{◌≡◌}
 use Rattle.flat_list.proofs.lists.FlatList.packed.Given as goal
 
 -- what was packed of the entries

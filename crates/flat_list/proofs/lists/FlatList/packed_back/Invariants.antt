@@ -1,5 +1,4 @@
-use Rattle.std.proofs.Common.{◌++◌, length}
-use Rattle.std.specs.List.Sorted.{IsPermutation}
+use Rattle.flat_list.proofs.Prelude.{◌++◌, length, IsPermutation}
 use Rattle.flat_list.proofs.lists.FlatList.packed_back.Given as goal
 
 -- what is left of the entries, and what was packed of the others

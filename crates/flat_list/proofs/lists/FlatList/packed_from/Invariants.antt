@@ -1,4 +1,4 @@
-use Rattle.std.proofs.Common.{◌≡◌, take}
+use Rattle.flat_list.proofs.Prelude.{◌≡◌, take}
 use Rattle.flat_list.proofs.lists.FlatList.packed_from.Given as goal
 
 -- what was packed of the entries

@@ -1,10 +1,4 @@
-use Rattle.std.proofs.Common.{rules, sym, subst, List}
-use Rattle.std.specs.Ordering.{is_lt}
-use Rattle.std.specs.List.Sorted.{IsSorted, IsStable}
-use Rattle.std.proofs.lemmas.Fn.{always_returns_same}
-use Rattle.std.proofs.lemmas.List.Sorted.{ranks_by}
-use Rattle.entry_pages.specs.declared.entries.Entry.{Entry}
-use Rattle.flat_list.specs.Orders.{sort_order}
+use Rattle.flat_list.proofs.Prelude.{rules, sym, subst, List, is_lt, IsSorted, IsStable, always_returns_same, ranks_by, Entry, sort_order}
 use Rattle.flat_list.proofs.Ordered.{sort_order_total, all_kept}
 use Rattle.flat_list.proofs.lists.FlatList.sort_by.Goals as goal
 

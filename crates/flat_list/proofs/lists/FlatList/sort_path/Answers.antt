@@ -1,10 +1,4 @@
-use Rattle.std.proofs.Common.{rules, sym, subst, List}
-use Rattle.std.specs.Ordering.{is_lt}
-use Rattle.std.specs.List.Sorted.{IsSortedByKey, IsStableByKey}
-use Rattle.std.proofs.lemmas.List.Sorted.{ranks_by, answers_always}
-use Rattle.path_text.specs.Order.{path_cmp}
-use Rattle.path_text.specs.Total.{path_cmp_total}
-use Rattle.entry_pages.specs.declared.entries.Entry.{Entry}
+use Rattle.flat_list.proofs.Prelude.{rules, sym, subst, List, is_lt, IsSortedByKey, IsStableByKey, ranks_by, answers_always, path_cmp, path_cmp_total, Entry}
 use Rattle.flat_list.proofs.Ordered.{all_kept}
 use Rattle.flat_list.proofs.lists.FlatList.sort_path.Goals as goal
 

@@ -1,5 +1,4 @@
-use Rattle.std.proofs.Common.{arith}
-use Rattle.std.proofs.lemmas.List.Sorted.{IsPermutation-append_left, IsPermutation-trans}
+use Rattle.flat_list.proofs.Prelude.{arith, IsPermutation-append_left, IsPermutation-trans}
 use Rattle.flat_list.proofs.Merged.{flat}
 use Rattle.flat_list.proofs.Cuts.{none_left}
 use Rattle.flat_list.proofs.runs.Cut.end.Goals as goal

@@ -1,6 +1,4 @@
-use Rattle.std.proofs.Common.{length}
-use Rattle.std.specs.List.Sorted.{IsPermutation}
-use Rattle.flat_list.specs.Private.Cut.{all_of}
+use Rattle.flat_list.proofs.Prelude.{length, IsPermutation, all_of}
 use Rattle.flat_list.proofs.runs.Cut.end.Given as goal
 
 -- entries only moved

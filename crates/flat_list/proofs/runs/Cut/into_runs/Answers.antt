@@ -1,6 +1,4 @@
-use Rattle.std.proofs.Common.{subst}
-use Rattle.std.specs.List.Sorted.{IsPermutation}
-use Rattle.flat_list.specs.Private.Cut.{all_of}
+use Rattle.flat_list.proofs.Prelude.{subst, IsPermutation, all_of}
 use Rattle.flat_list.proofs.runs.Cut.into_runs.Goals as goal
 
 pub returns : goal.returns

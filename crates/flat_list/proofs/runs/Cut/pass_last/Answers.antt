@@ -1,4 +1,4 @@
-use Rattle.flat_list.specs.Private.Cut.{held_by}
+use Rattle.flat_list.proofs.Prelude.{held_by}
 use Rattle.flat_list.proofs.Cuts.{moved}
 use Rattle.flat_list.proofs.runs.Cut.pass_last.Goals as goal
 

@@ -1,5 +1,4 @@
-use Rattle.std.proofs.lemmas.List.Sorted.{IsPermutation-trans}
-use Rattle.flat_list.specs.Private.Cut.{held_by}
+use Rattle.flat_list.proofs.Prelude.{IsPermutation-trans, held_by}
 use Rattle.flat_list.proofs.Cuts.{one_waits, one_put}
 use Rattle.flat_list.proofs.runs.Cut.put.Goals as goal
 

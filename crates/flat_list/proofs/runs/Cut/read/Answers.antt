@@ -1,9 +1,5 @@
-use Rattle.std.proofs.Common.{rules, ◌≡◌, ◌∙◌, ◌++◌, ◌∷◌, [], refl, ap, sym, subst, take, List, ℕ}
-use Rattle.std.specs.List.Sorted.{IsPermutation}
-use Rattle.std.proofs.lemmas.List.{take_all, append-nil}
-use Rattle.std.proofs.lemmas.List.Sorted.{IsPermutation-trans}
-use Rattle.entry_pages.specs.declared.entries.Entry.{Entry}
-use Rattle.flat_list.specs.Private.Cut.{all_of}
+use Rattle.flat_list.proofs.Prelude.{rules, ◌≡◌, ◌∙◌, ◌++◌, ◌∷◌, [], refl, ap, sym, subst, take, List, ℕ, IsPermutation, take_all, append-nil}
+use Rattle.flat_list.proofs.Prelude.{IsPermutation-trans, Entry, all_of}
 use Rattle.flat_list.proofs.Dealt.{taken}
 use Rattle.flat_list.proofs.Merged.{same}
 use Rattle.flat_list.proofs.Cuts.{one_behind}

@@ -1,6 +1,4 @@
-use Rattle.std.proofs.Common.{◌≡◌, ◌-◌, ◌≤◌, ◌++◌, length, take}
-use Rattle.std.specs.List.Sorted.{IsPermutation}
-use Rattle.flat_list.specs.Private.Cut.{all_of}
+use Rattle.flat_list.proofs.Prelude.{◌≡◌, ◌-◌, ◌≤◌, ◌++◌, length, take, IsPermutation, all_of}
 use Rattle.flat_list.proofs.runs.Cut.read.Given as goal
 
 -- what was passed moved to the others

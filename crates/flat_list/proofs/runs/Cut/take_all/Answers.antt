@@ -1,9 +1,5 @@
-use Rattle.std.proofs.Common.{arith, ◌≡◌, ◌+◌, ◌++◌, ◌∷◌, [], ◌∙◌, ap, sym, subst, take, List}
-use Rattle.std.specs.List.Sorted.{IsPermutation}
-use Rattle.std.proofs.lemmas.List.{take_all, take_more}
-use Rattle.std.proofs.lemmas.List.Sorted.{IsPermutation-trans}
-use Rattle.entry_pages.specs.declared.entries.Entry.{Entry}
-use Rattle.flat_list.specs.Private.Cut.{all_of}
+use Rattle.flat_list.proofs.Prelude.{arith, ◌≡◌, ◌+◌, ◌++◌, ◌∷◌, [], ◌∙◌, ap, sym, subst, take, List, IsPermutation, take_all, take_more, IsPermutation-trans}
+use Rattle.flat_list.proofs.Prelude.{Entry, all_of}
 use Rattle.flat_list.proofs.Cuts.{one_behind}
 use Rattle.flat_list.proofs.runs.Cut.take_all.Goals as goal
 

@@ -1,4 +1,4 @@
-use Rattle.std.proofs.Common.{◌≡◌, ◌++◌, ◌∷◌, [], ◌∙◌, ap}
+use Rattle.flat_list.proofs.Prelude.{◌≡◌, ◌++◌, ◌∷◌, [], ◌∙◌, ap}
 use Rattle.flat_list.proofs.Cuts.{closed}
 use Rattle.flat_list.proofs.runs.Pieces.end.Goals as goal
 

@@ -1,6 +1,4 @@
-use Rattle.std.proofs.Common.{sym, subst}
-use Rattle.std.specs.List.Sorted.{IsPermutation}
-use Rattle.flat_list.specs.Private.Cut.{held_by}
+use Rattle.flat_list.proofs.Prelude.{sym, subst, IsPermutation, held_by}
 use Rattle.flat_list.proofs.Merged.{flat}
 use Rattle.flat_list.proofs.Cuts.{put}
 use Rattle.flat_list.proofs.runs.Pieces.put.Goals as goal

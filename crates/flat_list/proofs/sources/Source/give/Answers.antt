@@ -1,6 +1,4 @@
-use Rattle.std.proofs.Common.{◌++◌, ◌∙◌, ap, sym, Bool, List}
-use Rattle.entry_pages.specs.declared.entries.Entry.{Entry}
-use Rattle.flat_list.specs.Private.Left.{left_of}
+use Rattle.flat_list.proofs.Prelude.{◌++◌, ◌∙◌, ap, sym, Bool, List, Entry, left_of}
 use Rattle.flat_list.proofs.Sourced.{Stepped, given}
 use Rattle.flat_list.proofs.sources.Source.give.Goals as goal
 

@@ -1,4 +1,4 @@
-use Rattle.std.proofs.Common.{◌≡◌, ◌++◌, length}
+use Rattle.flat_list.proofs.Prelude.{◌≡◌, ◌++◌, length}
 use Rattle.flat_list.proofs.sources.Source.give_all.Given as goal
 
 abbrev pub invariant-loop-self : goal.invariant-loop-self

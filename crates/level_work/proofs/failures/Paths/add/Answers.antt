@@ -1,6 +1,4 @@
-use Rattle.std.proofs.Common.{◌≡◌, ◌||◌, subst, ℕ, List, nat_eq}
-use Rattle.std.specs.Cmp.Lexicographic.{pointwise}
-use Rattle.level_work.specs.Private.Dealing.{has_path}
+use Rattle.level_work.proofs.Prelude.{◌≡◌, ◌||◌, subst, ℕ, List, nat_eq, pointwise, has_path}
 use Rattle.level_work.proofs.Sets.{is_added}
 use Rattle.level_work.proofs.failures.Paths.add.Goals as goal
 

@@ -1,4 +1,4 @@
-use Rattle.std.proofs.Common.{◌∙◌}
+use Rattle.level_work.proofs.Prelude.{◌∙◌}
 use Rattle.level_work.proofs.Sets.{is_there}
 use Rattle.level_work.proofs.failures.Paths.has.Goals as goal
 

@@ -1,6 +1,5 @@
-use Rattle.std.proofs.Common.{ap, ◌≡◌, Some, IsTrue, sym, subst, arith, slice_get}
-use Rattle.outside.specs.Writes.{is_top, is_open}
-use Rattle.level_work.specs.Private.Lots.{IsAt}
+use Rattle.level_work.proofs.Prelude.{ap, ◌≡◌, Some, sym, subst, arith, slice_get, is_top, is_open, IsAt}
+use Rattle.std.proofs.Common.{IsTrue}
 use Rattle.level_work.proofs.Coming.{none_came, one_more_came, none_more_came}
 use Rattle.level_work.proofs.Working.{begun, stepped, finished, lost_at}
 use Rattle.level_work.proofs.lots.Lot.work.Goals as goal

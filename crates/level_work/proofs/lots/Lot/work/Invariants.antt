@@ -1,5 +1,4 @@
-use Rattle.level_work.specs.Private.Coming.{HaveCome}
-use Rattle.level_work.specs.Private.Lots.{Upto, part_tree, part_area, part_count}
+use Rattle.level_work.proofs.Prelude.{HaveCome, Upto, part_tree, part_area, part_count}
 use Rattle.level_work.proofs.lots.Lot.work.Given as goal
 
 abbrev pub invariant-loop-j : goal.invariant-loop-j

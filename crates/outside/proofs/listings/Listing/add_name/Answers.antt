@@ -1,5 +1,4 @@
-use Rattle.std.proofs.Common.{◌≡◌, length, ap, rules}
-use Rattle.std.specs.String.{string_bytes}
+use Rattle.outside.proofs.Prelude.{◌≡◌, length, ap, rules, string_bytes}
 use Rattle.outside.proofs.Ends.{names_push, ends_push}
 use Rattle.outside.proofs.listings.Listing.add_name.Goals as goal
 

@@ -1,4 +1,4 @@
-use Rattle.std.proofs.Common.{arith}
+use Rattle.outside.proofs.Prelude.{arith}
 use Rattle.outside.proofs.Ends.{names_len}
 use Rattle.outside.proofs.listings.Listing.len.Goals as goal
 

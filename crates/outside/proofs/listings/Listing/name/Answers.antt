@@ -1,4 +1,4 @@
-use Rattle.std.proofs.Common.{ap}
+use Rattle.outside.proofs.Prelude.{ap}
 use Rattle.outside.proofs.Ends.{has_end}
 use Rattle.outside.proofs.listings.Listing.name.Goals as goal
 

@@ -1,10 +1,5 @@
-use Rattle.std.proofs.Common.{◌≡◌, ◌+◌, ◌∙◌, inl, inr, refl, sym, ap, true, [], ◌∷◌, ◌++◌}
-use Rattle.post_board.specs.Readings.{Is, Step, Read, AnswerSteps}
-use Rattle.post_board.specs.Shown.{victim_of}
-use Rattle.post_board.specs.Words.{resting, asking, full, fetching, emptied, word_of, has_bit}
-use Rattle.post_board.specs.BoardSteps.{SeatState}
-use Rattle.post_board.specs.BoardSeats.{shown_known}
-use Rattle.post_board.specs.declared.answers.Answer.TheVariants.{Nothing}
+use Rattle.post_board.proofs.Prelude.{◌≡◌, ◌+◌, ◌∙◌, inl, inr, refl, sym, ap, true, [], ◌∷◌, ◌++◌, Is, Step, Read, AnswerSteps, victim_of, resting, asking}
+use Rattle.post_board.proofs.Prelude.{full, fetching, emptied, word_of, has_bit, SeatState, shown_known, Nothing}
 use Rattle.post_board.proofs.WordLemmas.{sign_of_word}
 use Rattle.post_board.proofs.CallLemmas.{reading, two_more, three_more}
 use Rattle.post_board.proofs.FindLemmas.{four_more, adds_as, finds_as, open_at}

@@ -1,8 +1,5 @@
-use Rattle.std.proofs.Common.{ℕ, ◌+◌, sym, ap}
-use Rattle.post_board.specs.Readings.{Is, Step}
-use Rattle.post_board.specs.Words.{resting, asking, word_of}
+use Rattle.post_board.proofs.Prelude.{ℕ, ◌+◌, sym, ap, Is, Step, resting, asking, word_of, SeatState}
 use Rattle.post_board.proofs.WordLemmas.{sign_of_word}
-use Rattle.post_board.specs.BoardSteps.{SeatState}
 use Rattle.post_board.proofs.CallLemmas.{reading, one_more}
 use Rattle.post_board.proofs.board_posts.RefBoardPost.ask.Goals as goal
 

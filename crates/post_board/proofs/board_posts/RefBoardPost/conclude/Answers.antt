@@ -1,10 +1,5 @@
-use Rattle.std.proofs.Common.{◌≡◌, ℕ, ◌∙◌, refl, sym, ap}
-use Rattle.ring_core.specs.declared.states.Colour.TheVariants.{White}
-use Rattle.ring_core.specs.declared.states.Token.TheVariants.{At, Over}
-use Rattle.post_board.specs.Readings.{Step}
-use Rattle.post_board.specs.Words.{token_read}
+use Rattle.post_board.proofs.Prelude.{◌≡◌, ℕ, ◌∙◌, refl, sym, ap, White, At, Over, Step, token_read, SeatState}
 use Rattle.post_board.proofs.WordLemmas.{token_of_word}
-use Rattle.post_board.specs.BoardSteps.{SeatState}
 use Rattle.post_board.proofs.CallLemmas.{reading, one_more}
 use Rattle.post_board.proofs.board_posts.RefBoardPost.conclude.Goals as goal
 

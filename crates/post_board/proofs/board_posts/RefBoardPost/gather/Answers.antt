@@ -1,5 +1,4 @@
-use Rattle.std.proofs.Common.{◌≡◌, ◌∙◌, refl, ap, arith, length}
-use Rattle.post_board.specs.BoardSteps.{SeatState}
+use Rattle.post_board.proofs.Prelude.{◌≡◌, ◌∙◌, refl, ap, arith, length, SeatState}
 use Rattle.post_board.proofs.GatherLemmas.{begun, fits, went_on, over_of, squares_of, halters_of}
 use Rattle.post_board.proofs.board_posts.RefBoardPost.gather.Goals as goal
 

@@ -1,4 +1,4 @@
-use Rattle.std.proofs.Common.{◌≡◌, true, length}
+use Rattle.post_board.proofs.Prelude.{◌≡◌, true, length}
 use Rattle.post_board.proofs.GatherLemmas.{Together}
 use Rattle.post_board.proofs.board_posts.RefBoardPost.gather.Given as goal
 

@@ -1,13 +1,5 @@
-use Rattle.std.proofs.Common.{◌≡◌, ℕ, ◌+◌, ◌∙◌, refl, sym, ap, false, set, cond, nat_lt, [], ◌∷◌, ◌++◌}
-use Rattle.atomic_table.specs.Table.{rest}
-use Rattle.ring_core.specs.declared.states.Colour.{Colour}
-use Rattle.ring_core.specs.declared.states.Colour.TheVariants.{Black}
-use Rattle.post_board.specs.Readings.{Is, Step}
-use Rattle.post_board.specs.Words.{serving, full, word_of}
-use Rattle.post_board.specs.BoardSteps.{SeatState, knows, after_post, front}
-use Rattle.post_board.specs.BoardSeats.{own_by}
-use Rattle.post_board.specs.declared.board_views.View.{View}
-use Rattle.post_board.specs.declared.board_views.Known.{Known}
+use Rattle.post_board.proofs.Prelude.{◌≡◌, ℕ, ◌+◌, ◌∙◌, refl, sym, ap, false, set, cond, nat_lt, [], ◌∷◌, ◌++◌, rest, Colour, Black, Is, Step, serving, full}
+use Rattle.post_board.proofs.Prelude.{word_of, SeatState, knows, after_post, front, own_by, View, Known}
 use Rattle.post_board.proofs.WordLemmas.{sign_of_word}
 use Rattle.post_board.proofs.CallLemmas.{reading, one_more, answered_one}
 use Rattle.post_board.proofs.board_posts.RefBoardPost.give.Goals as goal

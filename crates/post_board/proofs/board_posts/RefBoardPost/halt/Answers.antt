@@ -1,6 +1,4 @@
-use Rattle.std.proofs.Common.{◌≡◌, ℕ, ◌+◌, sym, ap, refl}
-use Rattle.post_board.specs.Readings.{Step}
-use Rattle.post_board.specs.BoardSteps.{SeatState}
+use Rattle.post_board.proofs.Prelude.{◌≡◌, ℕ, ◌+◌, sym, ap, refl, Step, SeatState}
 use Rattle.post_board.proofs.CallLemmas.{reading, one_more}
 use Rattle.post_board.proofs.board_posts.RefBoardPost.halt.Goals as goal
 

@@ -1,22 +1,9 @@
-use Rattle.std.proofs.Common.{◌≡◌, ◌≢◌, ℕ, ◌+◌, ◌∙◌, ◌<◌, refl, sym, ap, subst, arith, true, false, append_assoc, map, length, get_or, set}
-use Rattle.std.proofs.Common.{get_or-set_other, length-set, length-append, sum_by, deque_capacity, deque_len, ◌≤◌, List, [], ◌∷◌, ◌++◌, Some, None}
-use Rattle.post_board.specs.Words.{asking, serving, word_of}
+use Rattle.post_board.proofs.Prelude.{◌≡◌, ◌≢◌, ℕ, ◌+◌, ◌∙◌, ◌<◌, refl, sym, ap, subst, arith, true, false, append_assoc, map, length, get_or, set}
+use Rattle.post_board.proofs.Prelude.{get_or-set_other, length-set, length-append, sum_by, deque_capacity, deque_len, ◌≤◌, List, [], ◌∷◌, ◌++◌, Some, None}
+use Rattle.post_board.proofs.Prelude.{asking, serving, word_of, Reading, SeatState, NoneAsked, knows, after_taking, dite, ℕ_discrete, Contains, map-append}
+use Rattle.post_board.proofs.Prelude.{Contains-push, Contains-append_left, turned, Parcel, serves, own_by, one_if, Known, View}
 use Rattle.post_board.proofs.WordLemmas.{sign_of_word}
-use Rattle.post_board.specs.declared.answers.Reading.{Reading}
-use Rattle.post_board.specs.BoardSteps.{SeatState}
 use Rattle.post_board.proofs.CallLemmas.{reading, served_more, room_for, Looked, looked_more, looked_self}
-use Rattle.post_board.specs.Readings.{NoneAsked}
-use Rattle.post_board.specs.BoardSteps.{knows, after_taking}
-use mathlib.Core.Logic.{dite}
-use native.Mathlib.Decide.{ℕ_discrete}
-use Rattle.std.specs.List.{Contains}
-use Rattle.std.proofs.lemmas.List.{map-append}
-use Rattle.std.proofs.lemmas.List.Elements.{Contains-push, Contains-append_left}
-use Rattle.atomic_table.specs.Table.{turned}
-use Rattle.post_board.specs.BoardRule.{Parcel, serves}
-use Rattle.post_board.specs.BoardSeats.{own_by, one_if}
-use Rattle.post_board.specs.declared.board_views.Known.{Known}
-use Rattle.post_board.specs.declared.board_views.View.{View}
 use Rattle.post_board.proofs.board_posts.RefBoardPost.next_request.Goals as goal
 use Rattle.post_board.proofs.board_posts.RefBoardPost.next_request.Goals.{else-r-seat-via-then-r-seat+else-look_at, else-r-seat-via-else-r-seat}
 

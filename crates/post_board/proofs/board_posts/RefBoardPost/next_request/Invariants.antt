@@ -1,4 +1,4 @@
-use Rattle.std.proofs.Common.{◌≡◌}
+use Rattle.post_board.proofs.Prelude.{◌≡◌}
 use Rattle.post_board.proofs.CallLemmas.{Looked}
 use Rattle.post_board.proofs.board_posts.RefBoardPost.next_request.Given as goal
 

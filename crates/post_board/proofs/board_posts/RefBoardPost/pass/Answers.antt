@@ -1,11 +1,4 @@
-use Rattle.std.proofs.Common.{◌≡◌, ℕ, ◌-◌, ◌∙◌, sym, ap, Some}
-use Rattle.ring_core.specs.World.{darker}
-use Rattle.ring_core.specs.declared.states.Colour.{Colour}
-use Rattle.ring_core.specs.declared.states.Token.TheVariants.{At}
-use Rattle.post_board.specs.Shown.{mixed}
-use Rattle.post_board.specs.Words.{word_of_token}
-use Rattle.post_board.specs.BoardSteps.{SeatState}
-use Rattle.post_board.specs.BoardSeats.{shown_known}
+use Rattle.post_board.proofs.Prelude.{◌≡◌, ℕ, ◌-◌, ◌∙◌, sym, ap, Some, darker, Colour, At, mixed, word_of_token, SeatState, shown_known}
 use Rattle.post_board.proofs.CallLemmas.{token_here, ring_moved}
 use Rattle.post_board.proofs.board_posts.RefBoardPost.pass.Goals as goal
 

@@ -1,14 +1,8 @@
-use Rattle.std.proofs.Common.{◌≡◌, ◌+◌, ◌∙◌, refl, sym, ap, false, [], ◌∷◌, ◌++◌}
-use Rattle.post_board.specs.Readings.{Is, Step}
-use Rattle.post_board.specs.Words.{serving, emptied, word_of}
+use Rattle.post_board.proofs.Prelude.{◌≡◌, ◌+◌, ◌∙◌, refl, sym, ap, false, [], ◌∷◌, ◌++◌, Is, Step, serving, emptied, word_of, SeatState, set, after_refusing}
+use Rattle.post_board.proofs.Prelude.{own_by, View}
 use Rattle.post_board.proofs.WordLemmas.{sign_of_word}
-use Rattle.post_board.specs.BoardSteps.{SeatState}
 use Rattle.post_board.proofs.CallLemmas.{reading, one_more}
-use Rattle.std.proofs.Common.{set}
-use Rattle.post_board.specs.BoardSteps.{after_refusing}
-use Rattle.post_board.specs.BoardSeats.{own_by}
 use Rattle.post_board.proofs.CallLemmas.{answered_one}
-use Rattle.post_board.specs.declared.board_views.View.{View}
 use Rattle.post_board.proofs.board_posts.RefBoardPost.refuse.Goals as goal
 
 pub returns-clause-reads : goal.returns-clause-reads

@@ -1,8 +1,4 @@
-use Rattle.std.proofs.Common.{ℕ, ◌-◌, ◌∙◌, sym, ap}
-use Rattle.ring_core.specs.declared.states.Colour.TheVariants.{White}
-use Rattle.ring_core.specs.declared.states.Token.TheVariants.{At}
-use Rattle.post_board.specs.Words.{word_of_token}
-use Rattle.post_board.specs.BoardSteps.{SeatState}
+use Rattle.post_board.proofs.Prelude.{ℕ, ◌-◌, ◌∙◌, sym, ap, White, At, word_of_token, SeatState}
 use Rattle.post_board.proofs.CallLemmas.{ring_moved}
 use Rattle.post_board.proofs.board_posts.RefBoardPost.restart.Goals as goal
 

@@ -1,5 +1,4 @@
-use Rattle.std.proofs.Common.{◌≡◌, ℕ, ◌+◌, ◌^◌, sym, ap, refl, bit_or}
-use Rattle.post_board.specs.BoardSteps.{SeatState}
+use Rattle.post_board.proofs.Prelude.{◌≡◌, ℕ, ◌+◌, ◌^◌, sym, ap, refl, bit_or, SeatState}
 use Rattle.post_board.proofs.CallLemmas.{reading, one_more}
 use Rattle.post_board.proofs.board_posts.RefBoardPost.stop.Goals as goal
 

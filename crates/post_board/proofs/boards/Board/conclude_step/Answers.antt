@@ -1,4 +1,4 @@
-use Rattle.std.proofs.Common.{◌∙◌, ⊎_elim, inl, inr, refl, arith}
+use Rattle.post_board.proofs.Prelude.{◌∙◌, ⊎_elim, inl, inr, refl, arith}
 use Rattle.post_board.proofs.RingSteps.{allows_conclude}
 use Rattle.post_board.proofs.boards.Board.conclude_step.Goals as goal
 

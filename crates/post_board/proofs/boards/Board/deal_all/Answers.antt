@@ -1,11 +1,7 @@
-use Rattle.std.proofs.Common.{◌≡◌, ℕ, ◌+◌, ◌∙◌, refl, sym, ap, subst, arith, List, [], ◌∷◌, ◌++◌, length, length-append, Some}
-use Rattle.std.specs.List.{All}
-use Rattle.std.proofs.lemmas.List.Elements.{All-nil, All-cons, All-append}
-use Rattle.ring_core.proofs.TogetherLemmas.{each_pushed}
+use Rattle.post_board.proofs.Prelude.{◌≡◌, ℕ, ◌+◌, ◌∙◌, refl, sym, ap, subst, arith, List, [], ◌∷◌, ◌++◌, length, length-append, Some, All, All-nil, All-cons}
+use Rattle.post_board.proofs.Prelude.{All-append, each_pushed, SeatState, IsUnread, unused, BoardSeat}
+use Rattle.post_board.specs.BoardSeats.{IsSeat, shown_by}
 use Rattle.post_board.specs.Fresh.{fresh as fresh_shown}
-use Rattle.post_board.specs.BoardSteps.{SeatState}
-use Rattle.post_board.specs.BoardSeats.{IsSeat, IsUnread, shown_by, unused}
-use Rattle.post_board.specs.declared.boards.BoardSeat.{BoardSeat}
 use Rattle.post_board.proofs.boards.Board.deal_all.Goals as goal
 
 pub loop-number-preserved : goal.loop-number-preserved

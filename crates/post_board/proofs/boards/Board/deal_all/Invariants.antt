@@ -1,9 +1,6 @@
-use Rattle.std.proofs.Common.{◌≡◌, ℕ, ◌+◌, ◌<◌, [], true, length, get_or, Some}
-use Rattle.std.specs.List.{All}
+use Rattle.post_board.proofs.Prelude.{◌≡◌, ℕ, ◌+◌, ◌<◌, [], true, length, get_or, Some, All, fresh, IsUnread, unused, BoardSeat}
+use Rattle.post_board.specs.BoardSeats.{IsSeat, shown_by}
 use Rattle.post_board.specs.Fresh.{fresh as fresh_shown}
-use Rattle.post_board.specs.BoardRule.{fresh}
-use Rattle.post_board.specs.BoardSeats.{IsSeat, IsUnread, shown_by, unused}
-use Rattle.post_board.specs.declared.boards.BoardSeat.{BoardSeat}
 use Rattle.post_board.proofs.boards.Board.deal_all.Given as goal
 
 abbrev pub invariant-loop-number : goal.invariant-loop-number

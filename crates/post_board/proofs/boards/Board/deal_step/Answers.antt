@@ -1,4 +1,4 @@
-use Rattle.std.proofs.Common.{arith}
+use Rattle.post_board.proofs.Prelude.{arith}
 use Rattle.post_board.proofs.SeatSteps.{deals}
 use Rattle.post_board.proofs.boards.Board.deal_step.Goals as goal
 

@@ -1,4 +1,4 @@
-use Rattle.std.proofs.Common.{arith}
+use Rattle.post_board.proofs.Prelude.{arith}
 use Rattle.post_board.proofs.MailboxSteps.{allows_fetch}
 use Rattle.post_board.proofs.boards.Board.fetch_step.Goals as goal
 

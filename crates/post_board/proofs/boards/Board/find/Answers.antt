@@ -1,8 +1,5 @@
-use Rattle.std.proofs.Common.{◌≡◌, ◌≢◌, ◌∙◌, ◌+◌, ◌*◌, ◌⊎◌, ⊎_elim, sym, ap, arith, true, false}
-use Rattle.post_board.specs.Words.{asking, serving, emptied, sign, has_bit}
-use Rattle.post_board.specs.BoardSteps.{SeatState, knowing, after_rest}
-use Rattle.post_board.specs.LateSteps.{stop_seen}
-use Rattle.post_board.specs.declared.board_views.OwnMailbox.TheVariants.{Open}
+use Rattle.post_board.proofs.Prelude.{◌≡◌, ◌≢◌, ◌∙◌, ◌+◌, ◌*◌, ◌⊎◌, ⊎_elim, sym, ap, arith, true, false, asking, serving, emptied, sign, has_bit, SeatState}
+use Rattle.post_board.proofs.Prelude.{knowing, after_rest, stop_seen, Open}
 use Rattle.post_board.proofs.WordLemmas.{sign_of_word}
 use Rattle.post_board.proofs.CallLemmas.{pending, full_word, learn_none}
 use Rattle.post_board.proofs.FindLemmas.{stops_open, finds_after, finds_full, finds_refused}

@@ -1,11 +1,6 @@
-use Rattle.std.proofs.Common.{◌≡◌, ◌≢◌, ℕ, zero, suc, ◌+◌, ◌-◌, ◌<◌, ◌≤◌, ◌∙◌, refl, sym, ap, subst, arith, List, [], ◌∷◌, ◌++◌, map, length, get_or}
-use Rattle.std.proofs.Common.{take, drop, length-append, None}
-use Rattle.std.specs.List.{Contains}
-use Rattle.std.proofs.lemmas.List.{map-append, get_or_append_left}
-use Rattle.std.proofs.lemmas.List.Sorted.{Contains-permutation}
-use Rattle.atomic_table.specs.Table.{turned}
-use Rattle.post_board.specs.BoardRule.{Parcel}
-use Rattle.post_board.specs.BoardSteps.{SeatState}
+use Rattle.post_board.proofs.Prelude.{◌≡◌, ◌≢◌, ℕ, zero, suc, ◌+◌, ◌-◌, ◌<◌, ◌≤◌, ◌∙◌, refl, sym, ap, subst, arith, List, [], ◌∷◌, ◌++◌, map, length, get_or}
+use Rattle.post_board.proofs.Prelude.{drop, length-append, None, Contains, map-append, get_or_append_left, Contains-permutation, turned, Parcel, SeatState}
+use Rattle.std.proofs.Common.{take}
 use Rattle.post_board.proofs.boards.Board.front_slot.Goals as goal
 
 abbrev empty_slot : ℕ → ℕ × Parcel

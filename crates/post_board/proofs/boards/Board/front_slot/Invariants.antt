@@ -1,5 +1,4 @@
-use Rattle.std.proofs.Common.{◌≡◌, ℕ, ◌-◌, ◌<◌, map, length, get_or, deque_capacity, None}
-use Rattle.std.specs.List.{Contains}
+use Rattle.post_board.proofs.Prelude.{◌≡◌, ℕ, ◌-◌, ◌<◌, map, length, get_or, deque_capacity, None, Contains}
 use Rattle.post_board.proofs.boards.Board.front_slot.Given as goal
 
 abbrev pub invariant-loop-step : goal.invariant-loop-step

@@ -1,4 +1,4 @@
-use Rattle.std.proofs.Common.{arith}
+use Rattle.post_board.proofs.Prelude.{arith}
 use Rattle.post_board.proofs.SeatSteps.{joins}
 use Rattle.post_board.proofs.boards.Board.join_step.Goals as goal
 

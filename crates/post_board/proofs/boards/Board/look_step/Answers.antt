@@ -1,5 +1,4 @@
-use Rattle.std.proofs.Common.{◌≡◌, ◌∙◌, sym, arith}
-use Rattle.post_board.specs.declared.board_views.OwnMailbox.TheVariants.{Open, Left}
+use Rattle.post_board.proofs.Prelude.{◌≡◌, ◌∙◌, sym, arith, Open, Left}
 use Rattle.post_board.proofs.MailboxSteps.{allows_look}
 use Rattle.post_board.proofs.boards.Board.look_step.Goals as goal
 

@@ -1,7 +1,4 @@
-use Rattle.std.proofs.Common.{ℕ, ◌-◌, ◌∙◌, sym, ap, arith}
-use Rattle.ring_core.specs.World.{darker}
-use Rattle.ring_core.specs.declared.states.Token.TheVariants.{At}
-use Rattle.post_board.specs.Words.{word_of_token}
+use Rattle.post_board.proofs.Prelude.{ℕ, ◌-◌, ◌∙◌, sym, ap, arith, darker, At, word_of_token}
 use Rattle.post_board.proofs.RingSteps.{allows_pass}
 use Rattle.post_board.proofs.boards.Board.pass_step.Goals as goal
 

@@ -1,4 +1,4 @@
-use Rattle.std.proofs.Common.{arith}
+use Rattle.post_board.proofs.Prelude.{arith}
 use Rattle.post_board.proofs.MailboxSteps.{allows_refuse}
 use Rattle.post_board.proofs.boards.Board.refuse_step.Goals as goal
 

@@ -1,7 +1,4 @@
-use Rattle.std.proofs.Common.{ℕ, ◌-◌, ◌∙◌, ⊎_elim, inl, inr, sym, ap, arith}
-use Rattle.ring_core.specs.declared.states.Colour.TheVariants.{White}
-use Rattle.ring_core.specs.declared.states.Token.TheVariants.{At}
-use Rattle.post_board.specs.Words.{word_of_token}
+use Rattle.post_board.proofs.Prelude.{ℕ, ◌-◌, ◌∙◌, ⊎_elim, inl, inr, sym, ap, arith, White, At, word_of_token}
 use Rattle.post_board.proofs.RingSteps.{allows_restart}
 use Rattle.post_board.proofs.boards.Board.restart_step.Goals as goal
 

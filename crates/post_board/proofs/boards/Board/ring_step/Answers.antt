@@ -1,4 +1,4 @@
-use Rattle.std.proofs.Common.{arith}
+use Rattle.post_board.proofs.Prelude.{arith}
 use Rattle.post_board.proofs.RingSteps.{allows_hear}
 use Rattle.post_board.proofs.boards.Board.ring_step.Goals as goal
 

@@ -1,4 +1,4 @@
-use Rattle.std.proofs.Common.{arith}
+use Rattle.post_board.proofs.Prelude.{arith}
 use Rattle.post_board.proofs.SeatSteps.{settles}
 use Rattle.post_board.proofs.boards.Board.settle_step.Goals as goal
 

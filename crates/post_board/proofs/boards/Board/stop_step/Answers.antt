@@ -1,4 +1,4 @@
-use Rattle.std.proofs.Common.{ℕ, ◌^◌, ◌∙◌, arith, sym, ap}
+use Rattle.post_board.proofs.Prelude.{ℕ, ◌^◌, ◌∙◌, arith, sym, ap}
 use Rattle.post_board.proofs.HaltSteps.{allows_stop_at}
 use Rattle.post_board.proofs.boards.Board.stop_step.Goals as goal
 

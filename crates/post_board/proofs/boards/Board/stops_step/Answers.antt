@@ -1,4 +1,4 @@
-use Rattle.std.proofs.Common.{arith}
+use Rattle.post_board.proofs.Prelude.{arith}
 use Rattle.post_board.proofs.HaltSteps.{allows_load_stops_at}
 use Rattle.post_board.proofs.boards.Board.stops_step.Goals as goal
 

@@ -1,8 +1,5 @@
-use Rattle.std.proofs.Common.{◌≡◌, ℕ, ◌∙◌, refl, sym, ap, [], length, get_or, replicate, map, false, sum_by, None}
-use Rattle.std.proofs.lemmas.List.{length-replicate}
-use Rattle.post_board.specs.BoardRule.{serves}
-use Rattle.post_board.specs.BoardSeats.{one_if}
-use Rattle.post_board.specs.declared.board_views.Known.{Known}
+use Rattle.post_board.proofs.Prelude.{◌≡◌, ℕ, ◌∙◌, refl, sym, ap, [], length, get_or, replicate, map, false, sum_by, None, length-replicate, serves, one_if}
+use Rattle.post_board.proofs.Prelude.{Known}
 use Rattle.post_board.proofs.SeatSteps.{never}
 use Rattle.post_board.proofs.CallLemmas.{serves_none}
 use Rattle.post_board.proofs.boards.BoardSeat.fresh.Goals as goal

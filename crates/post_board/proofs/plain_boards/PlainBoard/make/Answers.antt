@@ -1,8 +1,5 @@
-use Rattle.std.proofs.Common.{None, Bool, false, ◌≡◌, ℕ, List, replicate, get_or, sym, subst, ap, ◌∙◌, arith}
-use Rattle.ring_core.specs.declared.states.Colour.TheVariants.{Black}
-use Rattle.ring_core.specs.declared.states.Token.TheVariants.{At}
-use Rattle.post_board.specs.Plain.{fresh_rank, told_of, worded, HaltFits, IsSeat, Noted}
-use Rattle.post_board.specs.declared.plain_ranks.PlainRank.{PlainRank}
+use Rattle.post_board.proofs.Prelude.{None, Bool, false, ◌≡◌, ℕ, List, replicate, get_or, sym, subst, ap, ◌∙◌, arith, Black, At, fresh_rank, told_of, worded}
+use Rattle.post_board.proofs.Prelude.{HaltFits, IsSeat, Noted, PlainRank}
 use Rattle.post_board.proofs.PlainStart.{told_at_first, seat_at_first, halts_at_first}
 use Rattle.post_board.proofs.AskerLemmas.{noted_at_first}
 use Rattle.post_board.proofs.plain_boards.PlainBoard.make.Goals as goal

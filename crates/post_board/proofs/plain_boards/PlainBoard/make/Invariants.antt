@@ -1,7 +1,5 @@
-use Rattle.std.proofs.Common.{◌≡◌, ◌<◌, ℕ, None, length, replicate, get_or}
+use Rattle.post_board.proofs.Prelude.{◌≡◌, ◌<◌, ℕ, None, length, replicate, get_or, fresh_rank, shown_by, PlainSeat}
 use Rattle.post_board.specs.Fresh.{fresh}
-use Rattle.post_board.specs.Plain.{fresh_rank, shown_by}
-use Rattle.post_board.specs.declared.plain_seats.PlainSeat.{PlainSeat}
 use Rattle.post_board.proofs.plain_boards.PlainBoard.make.Given as goal
 
 abbrev pub invariant-loop-number : goal.invariant-loop-number

@@ -1,11 +1,8 @@
-use Rattle.std.proofs.Common.{◌≡◌, ℕ, ◌∙◌, ap, refl, true, false, sym, subst, set, get_or}
-use Rattle.std.proofs.lemmas.List.{get_or_read}
-use Rattle.std.specs.Vec.{with_item}
-use Rattle.post_board.specs.Plain.{no_rank, plain, worded, Noted}
+use Rattle.post_board.proofs.Prelude.{◌≡◌, ℕ, ◌∙◌, ap, refl, true, false, sym, subst, set, get_or, get_or_read, with_item, no_rank, plain, worded, Noted, Rest}
+use Rattle.post_board.proofs.Prelude.{Wants, Served}
 use Rattle.post_board.proofs.PlainServing.{take_up_deed, wants_is}
 use Rattle.post_board.proofs.AskerLemmas.{noted_taken}
 use Rattle.post_board.proofs.PlainHalts.{Keeps, keeps_put, serves_on}
-use Rattle.post_board.specs.declared.plain_ranks.PlainMailbox.TheVariants.{Rest, Wants, Served}
 use Rattle.post_board.proofs.plain_boards.PlainBoard.take_up.Goals as goal
 
 served_same : (j k : ℕ) → Served j ≡ Served k → j ≡ k

@@ -1,6 +1,4 @@
-use Rattle.std.proofs.Common.{◌≡◌, refl, sym, subst}
-use Rattle.std.proofs.lemmas.List.{get_or_read}
-use Rattle.post_board.specs.Plain.{no_rank, plain, Noted}
+use Rattle.post_board.proofs.Prelude.{◌≡◌, refl, sym, subst, get_or_read, no_rank, plain, Noted}
 use Rattle.post_board.proofs.PlainWithdraw.{withdrawn}
 use Rattle.post_board.proofs.plain_boards.PlainBoard.withdraw.Goals as goal
 

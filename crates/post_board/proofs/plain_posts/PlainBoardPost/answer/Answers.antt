@@ -1,6 +1,4 @@
-use Rattle.std.proofs.Common.{refl, sym, ap, ◌∙◌, inl}
-use Rattle.post_board.specs.Plain.{wants}
-use Rattle.post_board.specs.declared.plain_ranks.PlainMailbox.{PlainMailbox}
+use Rattle.post_board.proofs.Prelude.{refl, sym, ap, ◌∙◌, inl, wants, PlainMailbox}
 use Rattle.post_board.proofs.PlainDeeds.{take_left, none_left}
 use Rattle.post_board.proofs.PlainDone.{own_read, done_rest}
 use Rattle.post_board.proofs.plain_posts.PlainBoardPost.answer.Goals as goal

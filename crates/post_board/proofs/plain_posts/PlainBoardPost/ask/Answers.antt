@@ -1,6 +1,4 @@
-use Rattle.std.proofs.Common.{◌∙◌, refl, sym, subst, ℕ, ◌<◌, false}
-use Rattle.post_board.specs.Plain.{Noted}
-use Rattle.post_board.specs.declared.plain_ranks.PlainMailbox.TheVariants.{Wants}
+use Rattle.post_board.proofs.Prelude.{◌∙◌, refl, sym, subst, ℕ, ◌<◌, false, Noted, Wants}
 use Rattle.post_board.proofs.PlainDeeds.{ask_deed}
 use Rattle.post_board.proofs.AskerLemmas.{noted_asks, rests}
 use Rattle.post_board.proofs.PlainHalts.{done_by, keeps_put}

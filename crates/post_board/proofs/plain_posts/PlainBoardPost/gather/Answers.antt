@@ -1,7 +1,4 @@
-use Rattle.std.proofs.Common.{arith, ◌<◌, ap, refl, ◌∙◌, length}
-use Rattle.std.proofs.lemmas.List.{get_or_read}
-use Rattle.post_board.specs.Plain.{no_rank}
-use Rattle.post_board.specs.declared.plain_ranks.PlainRank.{PlainRank}
+use Rattle.post_board.proofs.Prelude.{arith, ◌<◌, ap, refl, ◌∙◌, length, get_or_read, no_rank, PlainRank}
 use Rattle.post_board.proofs.PlainHalts.{some_rank, over_is, none_left_over, halters_of}
 use Rattle.post_board.proofs.plain_posts.PlainBoardPost.gather.Goals as goal
 

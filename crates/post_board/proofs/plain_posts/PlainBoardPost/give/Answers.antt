@@ -1,10 +1,5 @@
-use Rattle.std.proofs.Common.{rules, ◌≡◌, ℕ, ◌<◌, ap, refl, sym, subst, false, set, length-set, ◌∙◌, get_or-set_other}
-use Rattle.std.proofs.lemmas.List.{get_or_read}
-use Rattle.std.specs.Vec.{with_item}
-use Rattle.post_board.specs.Plain.{no_rank, plain, wants}
-use Rattle.post_board.specs.declared.plain_ranks.PlainMailbox.{PlainMailbox}
-use Rattle.post_board.specs.declared.plain_ranks.PlainMailbox.TheVariants.{Rest, Served}
-use Rattle.post_board.specs.declared.plain_ranks.PlainRank.{PlainRank}
+use Rattle.post_board.proofs.Prelude.{rules, ◌≡◌, ℕ, ◌<◌, ap, refl, sym, subst, false, set, length-set, ◌∙◌, get_or-set_other, get_or_read, with_item, no_rank}
+use Rattle.post_board.proofs.Prelude.{plain, wants, PlainMailbox, Rest, Served, PlainRank}
 use Rattle.post_board.proofs.PlainServing.{give_deed, serves_below, not_self}
 use Rattle.post_board.proofs.AskerLemmas.{noted_same}
 use Rattle.post_board.proofs.PlainHalts.{done_by, keeps_own, keeps_put, keeps_then, serves_on}

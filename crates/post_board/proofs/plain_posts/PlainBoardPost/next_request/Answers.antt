@@ -1,5 +1,4 @@
-use Rattle.std.proofs.Common.{◌≡◌, sym, ◌∙◌, refl, get_or}
-use Rattle.std.proofs.lemmas.Bool.{eqb-true}
+use Rattle.post_board.proofs.Prelude.{◌≡◌, sym, ◌∙◌, refl, get_or, eqb-true}
 use Rattle.post_board.proofs.AskerLemmas.{none_asks}
 use Rattle.post_board.proofs.plain_posts.PlainBoardPost.next_request.Goals as goal
 

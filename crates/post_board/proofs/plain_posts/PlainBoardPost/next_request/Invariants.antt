@@ -1,6 +1,4 @@
-use Rattle.std.proofs.Common.{◌≡◌}
-use Rattle.post_board.specs.Calls.{NoneAsks}
-use Rattle.post_board.specs.Plain.{shown_by, told_by}
+use Rattle.post_board.proofs.Prelude.{◌≡◌, NoneAsks, shown_by, told_by}
 use Rattle.post_board.proofs.plain_posts.PlainBoardPost.next_request.Given as goal
 
 abbrev pub invariant-loop-r : goal.invariant-loop-r

@@ -1,4 +1,4 @@
-use Rattle.std.proofs.Common.{refl}
+use Rattle.post_board.proofs.Prelude.{refl}
 use Rattle.post_board.proofs.PlainToken.{pass_deed}
 use Rattle.post_board.proofs.PlainDone.{own_read, done_kept}
 use Rattle.post_board.proofs.plain_posts.PlainBoardPost.pass.Goals as goal

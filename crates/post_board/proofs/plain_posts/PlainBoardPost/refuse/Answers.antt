@@ -1,9 +1,4 @@
-use Rattle.std.proofs.Common.{◌≡◌, ap, refl, false, sym, ◌∙◌}
-use Rattle.std.proofs.lemmas.List.{get_or_read}
-use Rattle.std.specs.Vec.{with_item}
-use Rattle.post_board.specs.Plain.{no_rank, plain, wants}
-use Rattle.post_board.specs.declared.plain_ranks.PlainMailbox.{PlainMailbox}
-use Rattle.post_board.specs.declared.plain_ranks.PlainMailbox.TheVariants.{Rest, Served}
+use Rattle.post_board.proofs.Prelude.{◌≡◌, ap, refl, false, sym, ◌∙◌, get_or_read, with_item, no_rank, plain, wants, PlainMailbox, Rest, Served}
 use Rattle.post_board.proofs.PlainServing.{refuse_deed, serves_below}
 use Rattle.post_board.proofs.AskerLemmas.{noted_same}
 use Rattle.post_board.proofs.PlainHalts.{done_by, keeps_put, serves_on}

@@ -1,4 +1,4 @@
-use Rattle.std.proofs.Common.{refl, inr}
+use Rattle.post_board.proofs.Prelude.{refl, inr}
 use Rattle.post_board.proofs.PlainDeeds.{over_deed}
 use Rattle.post_board.proofs.PlainToken.{over_quiet}
 use Rattle.post_board.proofs.PlainDone.{own_read, done_kept}

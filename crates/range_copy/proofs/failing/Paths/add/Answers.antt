@@ -1,4 +1,4 @@
-use Rattle.level_work.proofs.Sets.{is_added}
+use Rattle.range_copy.proofs.Prelude.{is_added}
 use Rattle.range_copy.proofs.failing.Paths.add.Goals as goal
 
 pub returns : goal.returns

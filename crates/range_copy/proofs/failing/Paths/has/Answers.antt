@@ -1,5 +1,4 @@
-use Rattle.std.proofs.Common.{◌∙◌}
-use Rattle.level_work.proofs.Sets.{is_there}
+use Rattle.range_copy.proofs.Prelude.{◌∙◌, is_there}
 use Rattle.range_copy.proofs.failing.Paths.has.Goals as goal
 
 pub returns : goal.returns

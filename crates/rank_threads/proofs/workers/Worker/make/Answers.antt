@@ -1,9 +1,6 @@
-use Rattle.std.proofs.Common.{◌≡◌, true, false, map, ap, ◌∙◌}
+use Rattle.rank_threads.proofs.Prelude.{◌≡◌, true, false, map, ap, ◌∙◌, SumShown, Rank, ready_at_first}
 use Rattle.post_board.specs.BoardSeats.{IsSeat as IsBoardSeat, shown_by as board_shown}
-use Rattle.sum_tree.specs.Shown.{SumShown}
 use Rattle.sum_tree.specs.TreeSeats.{IsSeat as IsSumSeat, shown_by as sums_shown}
-use Rattle.circle_run.specs.declared.ranks.Rank.{Rank}
-use Rattle.circle_run.proofs.New.{ready_at_first}
 use Rattle.rank_threads.proofs.workers.Worker.make.Goals as goal
 
 pub returns : goal.returns

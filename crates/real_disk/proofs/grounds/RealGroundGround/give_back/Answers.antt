@@ -1,6 +1,4 @@
-use Rattle.std.proofs.Common.{ap, sym, subst, IsTrue}
-use Rattle.std.specs.List.{list_any}
-use Rattle.outside.specs.Lease.{same_tops}
+use Rattle.real_disk.proofs.Prelude.{ap, sym, subst, IsTrue, list_any, same_tops}
 use Rattle.real_disk.proofs.grounds.RealGroundGround.give_back.Goals as goal
 
 pub end-requires : goal.end-requires

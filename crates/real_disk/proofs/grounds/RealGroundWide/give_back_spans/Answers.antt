@@ -1,5 +1,4 @@
-use Rattle.std.proofs.Common.{◌≡◌, ap, sym, subst, true, is_some}
-use Rattle.outside.specs.Spans.{cuts_at}
+use Rattle.real_disk.proofs.Prelude.{◌≡◌, ap, sym, subst, true, is_some, cuts_at}
 use Rattle.real_disk.proofs.Spanning.{is_out}
 use Rattle.real_disk.proofs.grounds.RealGroundWide.give_back_spans.Goals as goal
 

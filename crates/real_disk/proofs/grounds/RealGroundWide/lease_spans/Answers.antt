@@ -1,7 +1,4 @@
-use Rattle.std.proofs.Common.{◌≡◌, ap, sym, subst, ◌∙◌, map}
-use Rattle.std.specs.Prelude.{All}
-use Rattle.outside.specs.Spans.{pieces}
-use Rattle.real_disk.specs.Spans.{count_of, piece_of, untold}
+use Rattle.real_disk.proofs.Prelude.{◌≡◌, ap, sym, subst, ◌∙◌, map, All, pieces, count_of, piece_of, untold}
 use Rattle.real_disk.proofs.Spanning.{blank_holds, blank_pieces, blank_zero, on_err, seen_same}
 use Rattle.real_disk.proofs.grounds.RealGroundWide.lease_spans.Goals as goal
 

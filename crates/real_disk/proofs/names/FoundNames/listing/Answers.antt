@@ -1,5 +1,4 @@
-use Rattle.std.proofs.Common.{◌∙◌, sym, subst}
-use Rattle.outside.specs.Tree.{AreNames}
+use Rattle.real_disk.proofs.Prelude.{◌∙◌, sym, subst, AreNames}
 use Rattle.real_disk.proofs.Ascending.{no_names}
 use Rattle.real_disk.proofs.names.FoundNames.listing.Goals as goal
 

@@ -1,4 +1,4 @@
-use Rattle.outside.specs.Tree.{AreNames}
+use Rattle.real_disk.proofs.Prelude.{AreNames}
 use Rattle.real_disk.proofs.names.FoundNames.listing.Given as goal
 
 abbrev pub invariant-loop-name : goal.invariant-loop-name

@@ -1,5 +1,4 @@
-use Rattle.std.proofs.Common.{ap, sym, ◌∙◌, is_some}
-use Rattle.outside.proofs.Cuts.{first_found, is_first, rest_there}
+use Rattle.real_disk.proofs.Prelude.{ap, sym, ◌∙◌, is_some, first_found, is_first, rest_there}
 use Rattle.real_disk.proofs.spans.Cuttings.end.Goals as goal
 
 pub unwrap-place-requires : goal.unwrap-place-requires

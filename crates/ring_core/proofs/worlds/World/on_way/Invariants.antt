@@ -1,6 +1,4 @@
-use Rattle.std.proofs.Common.{◌≡◌, ◌*◌, ◌^◌, ◌≤◌, take, sum_by}
-use Rattle.ring_core.specs.declared.states.RankState.{RankState}
-use Rattle.ring_core.specs.World.{held}
+use Rattle.ring_core.proofs.Prelude.{◌≡◌, ◌*◌, ◌^◌, ◌≤◌, take, sum_by, RankState, held}
 use Rattle.ring_core.proofs.worlds.World.on_way.Given as goal
 
 abbrev pub invariant-loop-rank : goal.invariant-loop-rank

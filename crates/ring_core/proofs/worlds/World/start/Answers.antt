@@ -1,6 +1,4 @@
-use Rattle.std.proofs.Common.{length, arith, ap, ◌∙◌}
-use Rattle.std.proofs.lemmas.List.FromFn.{map-range_with_len_more, length-map-range_with_len}
-use Rattle.ring_core.specs.World.{dealt, fresh}
+use Rattle.ring_core.proofs.Prelude.{length, arith, ap, ◌∙◌, map-range_with_len_more, length-map-range_with_len, dealt, fresh}
 use Rattle.ring_core.proofs.worlds.World.start.Goals as goal
 
 pub loop-rank-preserved : goal.loop-rank-preserved

@@ -1,6 +1,4 @@
-use Rattle.std.proofs.Common.{◌≡◌, map}
-use Rattle.std.specs.List.{range_with_len}
-use Rattle.ring_core.specs.World.{dealt, fresh}
+use Rattle.ring_core.proofs.Prelude.{◌≡◌, map, range_with_len, dealt, fresh}
 use Rattle.ring_core.proofs.worlds.World.start.Given as goal
 
 abbrev pub invariant-loop-rank : goal.invariant-loop-rank

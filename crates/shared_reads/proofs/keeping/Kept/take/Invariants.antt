@@ -1,6 +1,4 @@
-use Rattle.std.proofs.Common.{◌≡◌, ℕ, ◌≤◌, ◌<◌, length, get_or, Vec, Global}
-use Rattle.shared_reads.specs.declared.keeping.Found.{Found}
-use Rattle.shared_reads.specs.Kept.{AreCut, held}
+use Rattle.shared_reads.proofs.Prelude.{◌≡◌, ℕ, ◌≤◌, ◌<◌, length, get_or, Vec, Global, Found, AreCut, held}
 use Rattle.shared_reads.proofs.keeping.Kept.take.Given as goal
 
 abbrev pub invariant-loop-k : goal.invariant-loop-k

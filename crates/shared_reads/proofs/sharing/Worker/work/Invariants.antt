@@ -1,5 +1,4 @@
-use Rattle.shared_reads.specs.Desks.{HasRoom}
-use Rattle.shared_reads.specs.Private.Sharing.{IsWorked}
+use Rattle.shared_reads.proofs.Prelude.{HasRoom, IsWorked}
 use Rattle.shared_reads.proofs.sharing.Worker.work.Given as goal
 
 abbrev pub invariant-loop : goal.invariant-loop

@@ -1,7 +1,4 @@
-use Rattle.std.proofs.Common.{◌∙◌, rules, tests}
-use Rattle.std.proofs.lemmas.Iterator.{YieldsList-from_slice}
-use Rattle.std.proofs.lemmas.Iterator.Search.{all_from_yields_List}
-use Rattle.sum_tree.specs.declared.ranks.RankSum.{RankSum}
+use Rattle.sum_tree.proofs.Prelude.{◌∙◌, rules, tests, YieldsList-from_slice, all_from_yields_List, RankSum}
 use Rattle.sum_tree.proofs.Rows.{finals_are}
 use Rattle.sum_tree.proofs.plain.PlainSums.are_children_final.Goals as goal
 

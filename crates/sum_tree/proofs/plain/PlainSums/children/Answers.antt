@@ -1,7 +1,4 @@
-use Rattle.std.proofs.Common.{ℕ, ◌-◌, ◌+◌, ◌*◌, take, drop, rules, ◌≡◌, ap, sym, length, ◌∙◌, List}
-use Rattle.sum_tree.specs.Told.{SumTold}
-use Rattle.sum_tree.specs.Shown.{SumShown}
-use Rattle.sum_tree.specs.declared.ranks.RankSum.{RankSum}
+use Rattle.sum_tree.proofs.Prelude.{ℕ, ◌-◌, ◌+◌, ◌*◌, take, drop, rules, ◌≡◌, ap, sym, length, ◌∙◌, List, SumTold, SumShown, RankSum}
 use Rattle.sum_tree.proofs.Rows.{rows_are}
 use Rattle.sum_tree.proofs.plain.PlainSums.children.Goals as goal
 

@@ -1,10 +1,6 @@
-use Rattle.std.proofs.Common.{◌≡◌, ℕ, arith, rules, ap, sym, subst, ◌∙◌, List, get_or, map, replicate}
-use Rattle.std.specs.List.{range_with_len}
-use Rattle.std.proofs.lemmas.List.FromFn.{map-range_with_len_more}
-use Rattle.sum_tree.specs.Told.{uncounted}
-use Rattle.sum_tree.specs.Shown.{SumShown}
-use Rattle.sum_tree.specs.Plain.{IsSeat, started, fresh, fresh_seats}
-use Rattle.sum_tree.specs.declared.ranks.RankSum.{RankSum}
+use Rattle.sum_tree.proofs.Prelude.{◌≡◌, ℕ, arith, rules, ap, sym, subst, ◌∙◌, List, get_or, map, replicate, range_with_len, map-range_with_len_more, uncounted}
+use Rattle.sum_tree.proofs.Prelude.{SumShown, started, fresh_seats, RankSum}
+use Rattle.sum_tree.specs.Plain.{IsSeat, fresh}
 use Rattle.sum_tree.proofs.Begins.{fresh_seats_are}
 use Rattle.sum_tree.proofs.plain.PlainSums.make.Goals as goal
 

@@ -1,5 +1,4 @@
-use Rattle.std.proofs.Common.{◌≡◌, map}
-use Rattle.std.specs.List.{range_with_len}
+use Rattle.sum_tree.proofs.Prelude.{◌≡◌, map, range_with_len}
 use Rattle.sum_tree.specs.Plain.{fresh}
 use Rattle.sum_tree.proofs.plain.PlainSums.make.Given as goal
 

@@ -1,8 +1,4 @@
-use Rattle.std.proofs.Common.{◌≡◌, ap, arith}
-use Rattle.std.proofs.lemmas.List.Sums.{sum_by_more_le}
-use Rattle.sum_tree.specs.Told.{uncounted}
-use Rattle.sum_tree.specs.Shown.{SumShown}
-use Rattle.sum_tree.specs.declared.ranks.RankSum.{RankSum}
+use Rattle.sum_tree.proofs.Prelude.{◌≡◌, ap, arith, sum_by_more_le, uncounted, SumShown, RankSum}
 use Rattle.sum_tree.proofs.Rows.{words_are}
 use Rattle.sum_tree.proofs.Seats.{total_fits}
 use Rattle.sum_tree.proofs.plain.PlainSums.total.Goals as goal

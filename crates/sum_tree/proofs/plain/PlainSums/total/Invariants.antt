@@ -1,5 +1,4 @@
-use Rattle.std.proofs.Common.{◌≡◌, ◌+◌, take, sum_by}
-use Rattle.sum_tree.specs.declared.ranks.RankSum.{RankSum}
+use Rattle.sum_tree.proofs.Prelude.{◌≡◌, ◌+◌, take, sum_by, RankSum}
 use Rattle.sum_tree.proofs.plain.PlainSums.total.Given as goal
 
 abbrev pub invariant-loop-child : goal.invariant-loop-child

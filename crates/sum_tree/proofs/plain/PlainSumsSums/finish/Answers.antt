@@ -1,5 +1,4 @@
-use Rattle.std.proofs.Common.{◌≡◌, sym, ◌∙◌, true}
-use Rattle.sum_tree.specs.Told.{are_final_below}
+use Rattle.sum_tree.proofs.Prelude.{◌≡◌, sym, ◌∙◌, true, are_final_below}
 use Rattle.sum_tree.proofs.Seats.{finish_done, final_sum}
 use Rattle.sum_tree.proofs.plain.PlainSumsSums.finish.Goals as goal
 

@@ -1,6 +1,4 @@
-use Rattle.std.proofs.Common.{arith, ◌<◌, ap, subst, sym, ◌∙◌, List, length, Some}
-use Rattle.sum_tree.specs.Told.{SumTold}
-use Rattle.sum_tree.specs.declared.ranks.RankSum.{RankSum}
+use Rattle.sum_tree.proofs.Prelude.{arith, ◌<◌, ap, subst, sym, ◌∙◌, List, length, Some, SumTold, RankSum}
 use Rattle.sum_tree.proofs.Gathers.{some_rank, first_word, gathered, first_answered}
 use Rattle.sum_tree.proofs.plain.PlainSumsSums.gather.Goals as goal
 

@@ -1,5 +1,4 @@
-use Rattle.std.proofs.Common.{◌≡◌, arith}
-use Rattle.sum_tree.specs.Told.{raised_by}
+use Rattle.sum_tree.proofs.Prelude.{◌≡◌, arith, raised_by}
 use Rattle.sum_tree.proofs.Seats.{raise_done}
 use Rattle.sum_tree.proofs.plain.PlainSumsSums.raise.Goals as goal
 

@@ -1,6 +1,4 @@
-use Rattle.std.proofs.Common.{ℕ, ◌∙◌, refl, ap, arith, length, false}
-use Rattle.std.proofs.lemmas.List.{length-replicate}
-use Rattle.sum_tree.specs.declared.tree_views.Known.{Known}
+use Rattle.sum_tree.proofs.Prelude.{ℕ, ◌∙◌, refl, ap, arith, length, false, length-replicate, Known}
 use Rattle.sum_tree.proofs.sum_trees.SumSeat.fresh.Goals as goal
 
 pub returns-clause-seat : goal.returns-clause-seat

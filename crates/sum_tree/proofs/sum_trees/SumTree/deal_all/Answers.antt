@@ -1,11 +1,6 @@
-use Rattle.std.proofs.Common.{◌≡◌, ℕ, ◌+◌, ◌∙◌, refl, sym, ap, subst, arith, List, [], ◌∷◌, ◌++◌, length, length-append}
-use Rattle.std.specs.List.{All}
-use Rattle.std.proofs.lemmas.List.Elements.{All-nil, All-cons, All-append}
-use Rattle.ring_core.proofs.TogetherLemmas.{each_pushed}
+use Rattle.sum_tree.proofs.Prelude.{◌≡◌, ℕ, ◌+◌, ◌∙◌, refl, sym, ap, subst, arith, List, [], ◌∷◌, ◌++◌, length, length-append, All, All-nil, All-cons}
+use Rattle.sum_tree.proofs.Prelude.{All-append, each_pushed, SeatState, IsSeat, IsUnread, shown_by, SumSeat}
 use Rattle.sum_tree.specs.Plain.{fresh as fresh_shown}
-use Rattle.sum_tree.specs.TreeSteps.{SeatState}
-use Rattle.sum_tree.specs.TreeSeats.{IsSeat, IsUnread, shown_by}
-use Rattle.sum_tree.specs.declared.sum_trees.SumSeat.{SumSeat}
 use Rattle.sum_tree.proofs.sum_trees.SumTree.deal_all.Goals as goal
 
 pub loop-number-preserved : goal.loop-number-preserved

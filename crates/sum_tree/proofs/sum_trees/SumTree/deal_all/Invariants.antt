@@ -1,9 +1,5 @@
-use Rattle.std.proofs.Common.{◌≡◌, ℕ, ◌+◌, ◌<◌, [], true, length, get_or}
-use Rattle.std.specs.List.{All}
+use Rattle.sum_tree.proofs.Prelude.{◌≡◌, ℕ, ◌+◌, ◌<◌, [], true, length, get_or, All, fresh, IsSeat, IsUnread, shown_by, SumSeat}
 use Rattle.sum_tree.specs.Plain.{fresh as fresh_shown}
-use Rattle.sum_tree.specs.TreeRule.{fresh}
-use Rattle.sum_tree.specs.TreeSeats.{IsSeat, IsUnread, shown_by}
-use Rattle.sum_tree.specs.declared.sum_trees.SumSeat.{SumSeat}
 use Rattle.sum_tree.proofs.sum_trees.SumTree.deal_all.Given as goal
 
 abbrev pub invariant-loop-number : goal.invariant-loop-number

@@ -1,4 +1,4 @@
-use Rattle.std.proofs.Common.{arith, sym}
+use Rattle.sum_tree.proofs.Prelude.{arith, sym}
 use Rattle.sum_tree.proofs.WordSteps.{finish_at}
 use Rattle.sum_tree.proofs.sum_trees.SumTree.final_step.Goals as goal
 

@@ -1,4 +1,4 @@
-use Rattle.std.proofs.Common.{rules}
+use Rattle.sum_tree.proofs.Prelude.{rules}
 use Rattle.sum_tree.proofs.StartLemmas.{starts}
 use Rattle.sum_tree.proofs.sum_trees.SumTree.make.Goals as goal
 

@@ -1,6 +1,4 @@
-use Rattle.std.proofs.Common.{◌-◌, refl, arith}
-use Rattle.std.specs.List.{range_with_len}
-use Rattle.sum_tree.specs.TreeReads.{Loaded}
+use Rattle.sum_tree.proofs.Prelude.{◌-◌, refl, arith, range_with_len, Loaded}
 use Rattle.sum_tree.proofs.ReadLemmas.{loaded_more, first_child, one_loaded, on_load, on_sum}
 use Rattle.sum_tree.proofs.sum_trees.SumTree.read_children.Goals as goal
 

@@ -1,8 +1,4 @@
-use Rattle.std.proofs.Common.{◌≡◌, ◌-◌, ◌<◌, ◌^◌, sum_by}
-use Rattle.std.specs.List.{range_with_len}
-use Rattle.sum_tree.specs.TreeRule.{seen_of}
-use Rattle.sum_tree.specs.TreeSeats.{IsSeat}
-use Rattle.sum_tree.specs.TreeReads.{Loaded}
+use Rattle.sum_tree.proofs.Prelude.{◌≡◌, ◌-◌, ◌<◌, ◌^◌, sum_by, range_with_len, seen_of, IsSeat, Loaded}
 use Rattle.sum_tree.proofs.sum_trees.SumTree.read_children.Given as goal
 
 abbrev pub invariant-loop-child : goal.invariant-loop-child

@@ -1,8 +1,4 @@
-use Rattle.std.proofs.Common.{◌≡◌, ℕ, ◌+◌, ◌-◌, ◌*◌, ◌≤◌, refl, sym, subst, ap, arith, min, sum_by}
-use Rattle.std.specs.List.{range_with_len}
-use Rattle.sum_tree.specs.TreeRule.{seen_of}
-use Rattle.sum_tree.specs.TreeReads.{LoadedFinal, Blocked}
-use Rattle.sum_tree.specs.declared.tree_views.Known.{Known}
+use Rattle.sum_tree.proofs.Prelude.{◌≡◌, ℕ, ◌+◌, ◌-◌, ◌*◌, ◌≤◌, refl, sym, subst, ap, arith, min, sum_by, range_with_len, seen_of, LoadedFinal, Blocked, Known}
 use Rattle.sum_tree.proofs.ReadLemmas.{final_more, final_none, blocks, first_child, many_children, one_loaded, on_load, on_sum}
 use Rattle.sum_tree.proofs.sum_trees.SumTree.read_finals.Goals as goal
 

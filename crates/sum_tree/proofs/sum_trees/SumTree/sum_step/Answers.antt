@@ -1,4 +1,4 @@
-use Rattle.std.proofs.Common.{arith}
+use Rattle.sum_tree.proofs.Prelude.{arith}
 use Rattle.sum_tree.proofs.SeatSteps.{sum_at}
 use Rattle.sum_tree.proofs.sum_trees.SumTree.sum_step.Goals as goal
 

@@ -1,5 +1,4 @@
-use Rattle.std.proofs.Common.{◌≡◌, ◌∙◌, refl, ap, arith, length}
-use Rattle.sum_tree.specs.TreeSteps.{SeatState}
+use Rattle.sum_tree.proofs.Prelude.{◌≡◌, ◌∙◌, refl, ap, arith, length, SeatState}
 use Rattle.sum_tree.proofs.GatherLemmas.{begun, fits, went_on, some_ranks, total_of}
 use Rattle.sum_tree.proofs.tree_sums.RefSumTreeSums.gather.Goals as goal
 

@@ -1,4 +1,4 @@
-use Rattle.std.proofs.Common.{◌≡◌, true, length}
+use Rattle.sum_tree.proofs.Prelude.{◌≡◌, true, length}
 use Rattle.sum_tree.proofs.GatherLemmas.{Together}
 use Rattle.sum_tree.proofs.tree_sums.RefSumTreeSums.gather.Given as goal
 

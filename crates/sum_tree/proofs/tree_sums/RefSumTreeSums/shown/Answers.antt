@@ -1,4 +1,4 @@
-use Rattle.std.proofs.Common.{refl}
+use Rattle.sum_tree.proofs.Prelude.{refl}
 use Rattle.sum_tree.proofs.ReadLemmas.{still}
 use Rattle.sum_tree.proofs.tree_sums.RefSumTreeSums.shown.Goals as goal
 

@@ -1,6 +1,4 @@
-use Rattle.std.proofs.Common.{◌++◌, take, ap, ap₂, subst, ◌∙◌, rules}
-use Rattle.std.specs.List.{flat_map}
-use Rattle.std.proofs.lemmas.Result.{on_err_weaker}
+use Rattle.tool_text.proofs.Prelude.{◌++◌, take, ap, ap₂, subst, ◌∙◌, rules, flat_map, on_err_weaker}
 use Rattle.tool_text.proofs.PutBehind.{PutPart, part_of_more, part_behind}
 use Rattle.tool_text.proofs.drafts.Draft.put.Goals as goal
 

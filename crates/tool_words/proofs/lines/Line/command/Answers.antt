@@ -1,6 +1,4 @@
-use Rattle.tool_words.specs.Asked.{asked_by}
-use Rattle.tool_words.specs.Clashes.{clash_in}
-use Rattle.tool_words.specs.Words.{asked_of, unless_clash}
+use Rattle.tool_words.proofs.Prelude.{asked_by, clash_in, asked_of, unless_clash}
 use Rattle.tool_words.proofs.Steps.{tells_both, refused_by}
 use Rattle.tool_words.proofs.lines.Line.command.Goals as goal
 

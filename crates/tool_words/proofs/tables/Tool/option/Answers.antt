@@ -1,4 +1,4 @@
-use Rattle.std.proofs.Common.{◌∙◌, sym, arith}
+use Rattle.tool_words.proofs.Prelude.{◌∙◌, sym, arith}
 use Rattle.tool_words.proofs.Groups.{found_there}
 use Rattle.tool_words.proofs.tables.Tool.option.Goals as goal
 

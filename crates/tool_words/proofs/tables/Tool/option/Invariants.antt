@@ -1,7 +1,4 @@
-use Rattle.std.proofs.Common.{◌≡◌, drop, find}
-use Rattle.std.specs.List.{flat_map}
-use Rattle.tool_words.specs.Table.{text_of, options_in, option_named}
-use Rattle.tool_words.specs.Value.{is}
+use Rattle.tool_words.proofs.Prelude.{◌≡◌, drop, find, flat_map, text_of, options_in, option_named, is}
 use Rattle.tool_words.proofs.tables.Tool.option.Given as goal
 
 -- the option is none of the groups before

@@ -1,7 +1,4 @@
-use Rattle.std.proofs.Common.{List, ap, sym, ◌∙◌}
-use Rattle.std.specs.List.{list_all, list_any}
-use Rattle.tree_cmp.specs.declared.conditions.Condition.{Condition}
-use Rattle.tree_cmp.specs.Expressions.{holds, meets}
+use Rattle.tree_cmp.proofs.Prelude.{List, ap, sym, ◌∙◌, list_all, list_any, Condition, holds, meets}
 use Rattle.tree_cmp.proofs.Lists.{list_any-map}
 use Rattle.tree_cmp.proofs.expressions.Expr.holds.Goals as goal
 

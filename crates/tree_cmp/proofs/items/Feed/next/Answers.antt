@@ -1,6 +1,4 @@
-use Rattle.std.proofs.Common.{rules, sym, ◌∙◌, IsTrue}
-use Rattle.path_text.specs.Order.{is_within}
-use Rattle.entry_pages.specs.declared.entries.Entry.{Entry}
+use Rattle.tree_cmp.proofs.Prelude.{rules, sym, ◌∙◌, IsTrue, is_within, Entry}
 use Rattle.tree_cmp.proofs.Feeding.{gave, passed_gone, passed_0, within_still, is_current, begun}
 use Rattle.tree_cmp.proofs.items.Feed.next.Goals as goal
 

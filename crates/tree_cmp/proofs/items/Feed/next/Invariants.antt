@@ -1,5 +1,4 @@
-use Rattle.std.proofs.Common.{◌≡◌, ◌-◌, length}
-use Rattle.tree_cmp.specs.Private.Steps.{ahead, IsSound}
+use Rattle.tree_cmp.proofs.Prelude.{◌≡◌, ◌-◌, length, ahead, IsSound}
 use Rattle.tree_cmp.proofs.items.Feed.next.Given as goal
 
 abbrev pub invariant-loop-self : goal.invariant-loop-self

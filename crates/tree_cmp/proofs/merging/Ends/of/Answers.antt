@@ -1,4 +1,4 @@
-use Rattle.tree_cmp.specs.Sides.{side}
+use Rattle.tree_cmp.proofs.Prelude.{side}
 use Rattle.tree_cmp.proofs.merging.Ends.of.Goals as goal
 
 pub returns-clause-side : goal.returns-clause-side

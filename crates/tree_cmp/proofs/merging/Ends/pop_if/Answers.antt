@@ -1,4 +1,4 @@
-use Rattle.tree_cmp.specs.Sides.{side}
+use Rattle.tree_cmp.proofs.Prelude.{side}
 use Rattle.tree_cmp.proofs.merging.Ends.pop_if.Goals as goal
 
 pub returns-in_err-next-clause-side : goal.returns-in_err-next-clause-side

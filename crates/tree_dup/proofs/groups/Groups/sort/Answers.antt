@@ -1,12 +1,6 @@
-use Rattle.std.proofs.Common.{rules, ◌≡◌, map, subst, IsPermutation, List}
+use Rattle.tree_dup.proofs.Prelude.{rules, ◌≡◌, map, subst, IsPermutation, List, IsPermutation-map, ranks_by, answers_always, path_cmp, path_cmp_total}
+use Rattle.tree_dup.proofs.Prelude.{first_path, told_of, Told, Group}
 use Rattle.std.specs.Ordering.{is_lt}
-use Rattle.std.proofs.lemmas.List.Sorted.{IsPermutation-map, ranks_by, answers_always}
-use Rattle.path_text.specs.Order.{path_cmp}
-use Rattle.path_text.specs.Total.{path_cmp_total}
-use Rattle.tree_dup.specs.Grouping.{first_path}
-use Rattle.tree_dup.specs.Shown.{told_of}
-use Rattle.tree_dup.specs.Told.{Told}
-use Rattle.tree_dup.specs.declared.groups.Group.{Group}
 use Rattle.tree_dup.proofs.Firsts.{sorted_shown}
 use Rattle.tree_dup.proofs.groups.Groups.sort.Goals as goal
 

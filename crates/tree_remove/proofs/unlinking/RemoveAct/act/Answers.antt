@@ -1,5 +1,4 @@
-use Rattle.std.proofs.Common.{refl}
-use Rattle.std.specs.Prelude.{Ok}
+use Rattle.tree_remove.proofs.Prelude.{refl, Ok}
 use Rattle.tree_remove.proofs.Causes.{shown}
 use Rattle.tree_remove.proofs.Deeds.{done, refused}
 use Rattle.tree_remove.proofs.unlinking.RemoveAct.act.Goals as goal

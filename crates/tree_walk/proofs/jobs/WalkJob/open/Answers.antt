@@ -1,5 +1,4 @@
-use Rattle.std.proofs.Common.{ap, ◌∙◌, sym}
-use Rattle.tree_walk.specs.Held.{entries_of}
+use Rattle.tree_walk.proofs.Prelude.{ap, ◌∙◌, sym, entries_of}
 use Rattle.tree_walk.proofs.Held.{entries_held}
 use Rattle.tree_walk.proofs.jobs.WalkJob.open.Goals as goal
 

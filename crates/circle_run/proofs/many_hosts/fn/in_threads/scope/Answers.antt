@@ -1,9 +1,5 @@
-use Rattle.std.proofs.Common.{Bor}
+use Rattle.circle_run.proofs.Prelude.{Bor, Board, BoardSeat, SumTree, SumSeat}
 use Rattle.post_board.specs.BoardSeats.{IsSeat as IsBoardSeat, shown_by as board_shown}
-use Rattle.post_board.specs.declared.boards.Board.{Board}
-use Rattle.post_board.specs.declared.boards.BoardSeat.{BoardSeat}
-use Rattle.sum_tree.specs.declared.sum_trees.SumTree.{SumTree}
-use Rattle.sum_tree.specs.declared.sum_trees.SumSeat.{SumSeat}
 use Rattle.sum_tree.specs.TreeSeats.{IsSeat as IsSumSeat, shown_by as sum_shown}
 use Rattle.circle_run.proofs.Joined.{placed_as, done_as, ok_both}
 use Rattle.circle_run.proofs.many_hosts.fn.in_threads.scope.Goals as goal
