@@ -31,9 +31,9 @@ pub(crate) enum Refused {
 
 impl<E: NoMemory> From<E> for Refused {
     ghost use Rattle.std.specs.Prelude.{◌≡◌};
-    ghost use Rattle.circle_lists.specs.declared.decoding.Refused.TheVariants as refused;
+    ghost use Rattle.circle_lists.specs.declared.decoding.Refused.TheVariants as error;
 
-    ghost from_gives = { λ _ e. e ≡ refused.OutOfMemory };
+    ghost from_gives = { λ _ e. e ≡ error.OutOfMemory };
 
     fn from(_: E) -> Self {
         Refused::OutOfMemory

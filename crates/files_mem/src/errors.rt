@@ -19,9 +19,9 @@ pub enum PutError {
 
 impl<E: NoMemory> From<E> for PutError {
     ghost use Rattle.std.specs.Prelude.{◌≡◌};
-    ghost use Rattle.files_mem.specs.declared.errors.PutError.TheVariants as put;
+    ghost use Rattle.files_mem.specs.declared.errors.PutError.TheVariants as error;
 
-    ghost from_gives = { λ _ e. e ≡ put.OutOfMemory };
+    ghost from_gives = { λ _ e. e ≡ error.OutOfMemory };
 
     fn from(_: E) -> Self {
         PutError::OutOfMemory

@@ -1,6 +1,5 @@
 //! Why a value of a test is refused.
-use path_text::OutOfMemory;
-use std::alloc::{AllocError, AllocFailed};
+use path_text::NoMemory;
 use thiserror::Error;
 
 /// Why a text is not a value of a test.
@@ -20,13 +19,13 @@ pub enum TestError {
     OutOfMemory,
 }
 
-impl From<OutOfMemory> for TestError {
+impl<E: NoMemory> From<E> for TestError {
     ghost use Rattle.std.specs.Prelude.{◌≡◌};
-    ghost use Rattle.find_tests.specs.declared.errors.TestError.TheVariants.{OutOfMemory};
+    ghost use Rattle.find_tests.specs.declared.errors.TestError.TheVariants as error;
 
-    ghost from_gives = { λ _ e. e ≡ OutOfMemory };
+    ghost from_gives = { λ _ e. e ≡ error.OutOfMemory };
 
-    fn from(_: OutOfMemory) -> Self {
+    fn from(_: E) -> Self {
         TestError::OutOfMemory
     }
 }

@@ -1,5 +1,5 @@
 //! Why a text is not a list file.
-use path_text::OutOfMemory;
+use path_text::NoMemory;
 use thiserror::Error;
 
 /// Why [`FlatList::decode`](crate::FlatList::decode) refuses a text.
@@ -17,13 +17,13 @@ pub enum CacheError {
     TooMany,
 }
 
-impl From<OutOfMemory> for CacheError {
+impl<E: NoMemory> From<E> for CacheError {
     ghost use Rattle.std.specs.Prelude.{◌≡◌};
     ghost use Rattle.flat_list.specs.declared.errors.CacheError.TheVariants as error;
 
     ghost from_gives = { λ _ e. e ≡ error.OutOfMemory };
 
-    fn from(_: OutOfMemory) -> Self {
+    fn from(_: E) -> Self {
         CacheError::OutOfMemory
     }
 }

@@ -17,9 +17,9 @@ pub enum RangeError {
 
 impl<E: NoMemory> From<E> for RangeError {
     ghost use Rattle.std.specs.Prelude.{◌≡◌};
-    ghost use Rattle.range_copy.specs.declared.cutting.RangeError.TheVariants as range;
+    ghost use Rattle.range_copy.specs.declared.cutting.RangeError.TheVariants as error;
 
-    ghost from_gives = { λ _ e. e ≡ range.OutOfMemory };
+    ghost from_gives = { λ _ e. e ≡ error.OutOfMemory };
 
     fn from(_: E) -> Self {
         RangeError::OutOfMemory

@@ -7,7 +7,7 @@ use crate::events::{Event, Reason};
 use crate::states::{Desk, Token};
 use crate::steps::step;
 use crate::worlds::World;
-use path_text::OutOfMemory;
+use path_text::NoMemory;
 use std::alloc::Global;
 use thiserror::Error;
 
@@ -35,13 +35,13 @@ pub enum RunError {
     OutOfMemory,
 }
 
-impl From<OutOfMemory> for RunError {
+impl<E: NoMemory> From<E> for RunError {
     ghost use Rattle.std.specs.Prelude.{◌≡◌};
-    ghost use Rattle.ring_core.specs.declared.runs.RunError.TheVariants.{OutOfMemory};
+    ghost use Rattle.ring_core.specs.declared.runs.RunError.TheVariants as error;
 
-    ghost from_gives = { λ _ e. e ≡ OutOfMemory };
+    ghost from_gives = { λ _ e. e ≡ error.OutOfMemory };
 
-    fn from(_: OutOfMemory) -> Self {
+    fn from(_: E) -> Self {
         RunError::OutOfMemory
     }
 }

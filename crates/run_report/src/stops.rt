@@ -1,5 +1,5 @@
 //! Why a run stops before it prints its list.
-use path_text::{OutOfMemory, Path};
+use path_text::{NoMemory, Path};
 
 /// Why a list file could not be read or written.
 #[derive(Clone, Copy, Debug, Drop, PartialEq, Eq)]
@@ -37,13 +37,13 @@ pub enum Stop {
     ListFile(Trouble, Path),
 }
 
-impl From<OutOfMemory> for Stop {
+impl<E: NoMemory> From<E> for Stop {
     ghost use Rattle.std.specs.Prelude.{◌≡◌};
-    ghost use Rattle.run_report.specs.declared.stops.Stop.TheVariants as stop;
+    ghost use Rattle.run_report.specs.declared.stops.Stop.TheVariants as error;
 
-    ghost from_gives = { λ _ e. e ≡ stop.OutOfMemory };
+    ghost from_gives = { λ _ e. e ≡ error.OutOfMemory };
 
-    fn from(_: OutOfMemory) -> Self {
+    fn from(_: E) -> Self {
         Stop::OutOfMemory
     }
 }

@@ -89,9 +89,9 @@ impl WordsError {
 
 impl<E: NoMemory> From<E> for WordsError {
     ghost use Rattle.std.specs.Prelude.{◌≡◌};
-    ghost use Rattle.tool_words.specs.declared.errors.WordsError.TheVariants.{OutOfMemory};
+    ghost use Rattle.tool_words.specs.declared.errors.WordsError.TheVariants as error;
 
-    ghost from_gives = { λ _ e. e ≡ OutOfMemory };
+    ghost from_gives = { λ _ e. e ≡ error.OutOfMemory };
 
     fn from(_: E) -> Self {
         WordsError::OutOfMemory

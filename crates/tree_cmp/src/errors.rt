@@ -57,9 +57,9 @@ pub enum ExprError {
 
 impl<E: NoMemory> From<E> for ExprError {
     ghost use Rattle.std.specs.Prelude.{◌≡◌};
-    ghost use Rattle.tree_cmp.specs.declared.errors.ExprError.TheVariants.{OutOfMemory};
+    ghost use Rattle.tree_cmp.specs.declared.errors.ExprError.TheVariants as error;
 
-    ghost from_gives = { λ _ e. e ≡ OutOfMemory };
+    ghost from_gives = { λ _ e. e ≡ error.OutOfMemory };
 
     fn from(_: E) -> Self {
         ExprError::OutOfMemory

@@ -30,9 +30,9 @@ pub enum PlaceError {
 
 impl<E: NoMemory> From<E> for PlaceError {
     ghost use Rattle.std.specs.Prelude.{◌≡◌};
-    ghost use Rattle.tree_copy.specs.declared.pairs.PlaceError.TheVariants as place;
+    ghost use Rattle.tree_copy.specs.declared.pairs.PlaceError.TheVariants as error;
 
-    ghost from_gives = { λ _ e. e ≡ place.OutOfMemory };
+    ghost from_gives = { λ _ e. e ≡ error.OutOfMemory };
 
     fn from(_: E) -> Self {
         PlaceError::OutOfMemory

@@ -1,6 +1,6 @@
 //! Why a walk gives no list.
 use circle_run::CircleError;
-use path_text::OutOfMemory;
+use path_text::NoMemory;
 use thiserror::Error;
 
 /// Why a walk gives no list.
@@ -14,13 +14,13 @@ pub enum WalkError {
     TooMany(u64),
 }
 
-impl From<OutOfMemory> for WalkError {
+impl<E: NoMemory> From<E> for WalkError {
     ghost use Rattle.std.specs.Prelude.{◌≡◌};
     ghost use Rattle.tree_walk.specs.declared.errors.WalkError.TheVariants as error;
 
     ghost from_gives = { λ _ e. e ≡ error.OutOfMemory };
 
-    fn from(_: OutOfMemory) -> Self {
+    fn from(_: E) -> Self {
         WalkError::OutOfMemory
     }
 }
