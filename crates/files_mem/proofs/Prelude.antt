@@ -17,8 +17,8 @@ pub use Rattle.std.specs.Cmp.Lexicographic.{bytes_decides, pointwise}
 pub use Rattle.std.specs.FinMap.{empty, entries, entries-insert, find, from_entries, get, get-empty, get-from_entries, get-insert, get-remove, insert}
 pub use Rattle.std.specs.FinMap.{len-empty, len-entries, put, remove, same_map}
 pub use Rattle.std.specs.FinMap.Entries.{by_order}
-pub use Rattle.std.specs.List.{AllByRecursion, AllZip, before_last, cons_option, filter_map, list_all, list_any, onto_first, slice_split, starts_with}
-pub use Rattle.std.specs.List.{suffix_len, sum_by}
+pub use Rattle.std.specs.List.{AllByRecursion, AllZip, before_last, cons_option, filter_map, list_all, list_any, onto_first, position, slice_split}
+pub use Rattle.std.specs.List.{starts_with, suffix_len, sum_by}
 pub use Rattle.std.specs.List.Sorted.{IsStrictlySortedBy}
 pub use Rattle.std.specs.Map.{keys_of, lookup, remove_entry, set_value}
 pub use Rattle.std.specs.Option.{MatchOption, is_none, option_map}
@@ -46,7 +46,7 @@ pub use Rattle.path_text.specs.Total.{path_cmp_same, path_cmp_ties, path_cmp_tot
 pub use Rattle.path_text.specs.declared.errors.PathError.{PathError}
 pub use Rattle.path_text.specs.declared.errors.PathError.TheVariants.{OutOfMemory}
 pub use Rattle.outside.proofs.Children.{child_is, name_below-front, name_below-off, one_name_parts}
-pub use Rattle.outside.proofs.Cuts.{first_found, first_index, is_first, rest_there, told_there}
+pub use Rattle.outside.proofs.Cuts.{first_found, first_index, is_first, is_of, rest_there, told_there}
 pub use Rattle.outside.proofs.Leased.{a_top, at_tree, get_part, get_rest, not_in_up, over_top}
 pub use Rattle.outside.proofs.Names.{children_are_names}
 pub use Rattle.outside.proofs.Parents.{no_child}

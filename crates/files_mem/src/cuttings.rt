@@ -111,89 +111,53 @@ fn put_behind(room: &mut Vec<u8>, bytes: &[u8])
     room.extend_from_slice(bytes).unwrap();
 }
 
-/// All the files that are out in spans, in the order in which they were lent.
-#[derive(Drop)]
-pub struct Cuttings {
-    out: Vec<Cutting>,
+/// Takes the file at the path out of the nodes, for spans that have room here, and puts it behind the files that are out. A refusal
+/// changes nothing.
+pub fn lend(
+    out: &mut Vec<Cutting>,
+    alloc: Global,
+    store: &mut Arc<Store>,
+    path: &Path,
+    cuts: &[u64],
+    room: Vec<u8>,
+) -> Result<(), OutOfMemory>
+    requires part { IsPart (path.now ∷ []) (leased (path.now ∷ []) (arc_value store.old)) }
+    requires file { is_file (get (leased (path.now ∷ []) (arc_value store.old)) path.now) ≡ true }
+    requires none { content (get (leased (path.now ∷ []) (arc_value store.old)) path.now) ≡ [] }
+    requires empty { room.items ≡ [] }
+    requires room { whole_size path.now cuts.now ≤ vec_capacity room }
+    ensures ok { OnOk result (out.new.items ≡ out.old.items ++ record { path = path.now; cuts = cuts.now } ∷ []) }
+    ensures rest { OnOk result (arc_value store.new ≡ kept (path.now ∷ []) (arc_value store.old)) }
+    ensures err { OnErr result (out.new.items ≡ out.old.items) }
+    ensures same { OnErr result (arc_value store.new ≡ arc_value store.old) }
+{
+    let own = path.copy()?;
+    let tops = [path.copy()?];
+    let cuts = Vec::from_slice(alloc, cuts)?;
+    out.reserve(1)?;
+    let mut lent = Lent::make(alloc); // it is not a part, so no other call counts its top
+    let (store, tops) = divide(alloc, store, &mut lent, &tops)?;
+    let cutting = Cutting::make(own, cuts, tops, store, room);
+    put_last(out, cutting);
+    Ok(())
 }
 
-impl Model for Cuttings {
-    ghost use Rattle.std.specs.Prelude.{List};
-    ghost use Rattle.std.specs.Coded.{coded_list};
-    ghost use Rattle.outside.specs.Writes.{Cut};
-    ghost use Rattle.outside.specs.Codes.{cut_code};
-
-    ghost Value = { List Cut };
-
-    ghost coded = { coded_list cut_code };
-
-    ghost view = { λ c. c.out.items };
+// The place of the first cutting of the file at the path.
+fn place_of(out: &[Cutting], path: &Path) -> Option<usize>
+    ensures { result ≡ position (λ one. pointwise nat_eq one.path path.now) out.now }
+{
+    out.iter().position(|one| one.path() == path)
 }
 
-impl Cuttings {
-    /// No paths.
-    pub fn make(alloc: Global) -> Cuttings
-        ensures { result ≡ [] }
-    {
-        Cuttings {
-            out: Vec::new(alloc),
-        }
-    }
-
-    /// How many files are out.
-    pub fn len(&self) -> usize
-        ensures { result ≡ length self.now }
-    {
-        self.out.len()
-    }
-
-    /// Takes the file at the path out of the nodes, for spans that have room here. A refusal changes nothing.
-    pub fn lend(
-        &mut self,
-        alloc: Global,
-        store: &mut Arc<Store>,
-        path: &Path,
-        cuts: &[u64],
-        room: Vec<u8>,
-    ) -> Result<(), OutOfMemory>
-        requires part { IsPart (path.now ∷ []) (leased (path.now ∷ []) (arc_value store.old)) }
-        requires file { is_file (get (leased (path.now ∷ []) (arc_value store.old)) path.now) ≡ true }
-        requires none { content (get (leased (path.now ∷ []) (arc_value store.old)) path.now) ≡ [] }
-        requires empty { room.items ≡ [] }
-        requires room { whole_size path.now cuts.now ≤ vec_capacity room }
-        ensures ok { OnOk result (self.new ≡ self.old ++ record { path = path.now; cuts = cuts.now } ∷ []) }
-        ensures rest { OnOk result (arc_value store.new ≡ kept (path.now ∷ []) (arc_value store.old)) }
-        ensures err { OnErr result (self.new ≡ self.old) }
-        ensures same { OnErr result (arc_value store.new ≡ arc_value store.old) }
-    {
-        let own = path.copy()?;
-        let tops = [path.copy()?];
-        let cuts = Vec::from_slice(alloc, cuts)?;
-        self.out.reserve(1)?;
-        let mut lent = Lent::make(alloc); // it is not a part, so no other call counts its top
-        let (store, tops) = divide(alloc, store, &mut lent, &tops)?;
-        let cutting = Cutting::make(own, cuts, tops, store, room);
-        put_last(&mut self.out, cutting);
-        Ok(())
-    }
-
-    // The place of the first cutting of the file at the path.
-    fn place_of(&self, path: &Path) -> Option<usize>
-        ensures { result ≡ position (λ one. pointwise nat_eq one.path path.now) self.now }
-    {
-        self.out.iter().position(|one| one.path() == path)
-    }
-
-    /// Takes the first cutting of the file at the path away.
-    pub fn take(&mut self, path: &Path) -> Cutting
-        requires { is_some (cuts_at path.now self.old) ≡ true }
-        ensures path { result.path ≡ path.now }
-        ensures cuts { cuts_at path.now self.old ≡ Some result.cuts }
-        ensures rest { self.new ≡ without_cut path.now self.old }
-    {
-        let place = self.place_of(path).unwrap();
-        self.out.remove(place)
-    }
+/// Takes the first cutting of the file at the path away.
+pub fn take(out: &mut Vec<Cutting>, path: &Path) -> Cutting
+    requires { is_some (cuts_at path.now out.old.items) ≡ true }
+    ensures path { result.path ≡ path.now }
+    ensures cuts { cuts_at path.now out.old.items ≡ Some result.cuts }
+    ensures rest { out.new.items ≡ without_cut path.now out.old.items }
+{
+    let place = place_of(out, path).unwrap();
+    out.remove(place)
 }
 
 // Puts a cutting into a place that was made for it.

@@ -18,7 +18,8 @@ ghost use Rattle.files_mem.specs.Memory.{put_refusal_at};
 ghost use Rattle.files_mem.specs.PrivateHeld.{laid_all, IsGround};
 ghost use Rattle.files_mem.specs.Spanned.{piece_of, bytes_of_all, whole_size};
 
-use crate::cuttings::Cuttings;
+use crate::cuttings;
+use crate::cuttings::Cutting;
 use crate::errors::PutError;
 use crate::nodes::Node;
 use crate::spans::MemSpan;
@@ -52,7 +53,8 @@ impl Model for Returned {
 pub struct Held {
     store: Arc<Store>,
     lent: Lent,
-    cut: Cuttings,
+    // The files that are out in spans, in the order in which they were lent.
+    cut: Vec<Cutting>,
     back: Vec<Returned>,
 }
 
@@ -66,9 +68,9 @@ impl Model for Held {
 
     ghost coded = { lending_code };
 
-    ghost view = { λ h. record { files = laid_all h.back.items (arc_value h.store); out = h.lent; cut = h.cut } };
+    ghost view = { λ h. record { files = laid_all h.back.items (arc_value h.store); out = h.lent; cut = h.cut.items } };
 
-    ghost invariant = { λ h. length h.lent + length h.cut + vec_len h.back ≤ vec_capacity h.back };
+    ghost invariant = { λ h. length h.lent + vec_len h.cut + vec_len h.back ≤ vec_capacity h.back };
 }
 
 impl Held {
@@ -79,7 +81,7 @@ impl Held {
         Ok(Held {
             store: Arc::new(alloc, store)?,
             lent: Lent::make(alloc),
-            cut: Cuttings::make(alloc),
+            cut: Vec::new(alloc),
             back: Vec::new(alloc),
         })
     }
@@ -223,7 +225,7 @@ impl Held {
     {
         settle(alloc, &mut self.store, &mut self.back)?;
         self.back.reserve(self.lent.len() + self.cut.len() + 1)?;
-        self.cut.lend(alloc, &mut self.store, path, cuts, room)
+        cuttings::lend(&mut self.cut, alloc, &mut self.store, path, cuts, room)
     }
 
     /// Takes a file back with the bytes of its spans, without memory.
@@ -235,7 +237,7 @@ impl Held {
         ensures cut { self.new.cut ≡ without_cut path.now self.old.cut }
         ensures ground { IsGround self.new }
     {
-        let cutting = self.cut.take(path);
+        let cutting = cuttings::take(&mut self.cut, path);
         let (store, tops) = cutting.join(spans);
         put_back(&mut self.back, Returned { tops, store });
     }
