@@ -17,8 +17,8 @@ pub use Rattle.std.specs.Cmp.Lexicographic.{bytes_decides, pointwise}
 pub use Rattle.std.specs.FinMap.{empty, entries, entries-insert, find, from_entries, get, get-empty, get-from_entries, get-insert, get-remove, insert}
 pub use Rattle.std.specs.FinMap.{len-empty, len-entries, put, remove, same_map}
 pub use Rattle.std.specs.FinMap.Entries.{by_order}
-pub use Rattle.std.specs.List.{AllByRecursion, AllZip, before_last, cons_option, filter_map, list_all, list_any, onto_first, position, slice_split}
-pub use Rattle.std.specs.List.{starts_with, suffix_len, sum_by}
+pub use Rattle.std.specs.List.{AllByRecursion, AllZip, before_last, cons_option, filter_map, list_all, list_any, onto_first, position, slice_split, starts_with}
+pub use Rattle.std.specs.List.{suffix_len, sum_by}
 pub use Rattle.std.specs.List.Sorted.{IsStrictlySortedBy}
 pub use Rattle.std.specs.Map.{keys_of, lookup, remove_entry, set_value}
 pub use Rattle.std.specs.Option.{MatchOption, is_none, option_map}

@@ -21,7 +21,7 @@ use crate::errors::PutError;
 use crate::held::Held;
 use crate::nodes::{Body, Node};
 use crate::parts::MemPart;
-use crate::plans::{Call, Plan};
+use crate::plans::{Call, Plan, has};
 use crate::readers::MemReader;
 use crate::spans::{MemSpan, faults_of, room_for, spans_of};
 use crate::stores::Store;
@@ -51,7 +51,7 @@ impl Model for MemGround {
 
     ghost coded = { memory_code };
 
-    ghost view = { λ g. record { files = g.held.files; planned = arc_value g.plan; count = g.count; area = all_but g.held.out g.held.cut } };
+    ghost view = { λ g. record { files = g.held.files; planned = (arc_value g.plan).items; count = g.count; area = all_but g.held.out g.held.cut } };
 
     ghost invariant = { λ g. IsGround g.held };
 }
@@ -68,7 +68,7 @@ impl MemGround {
         store.put(root, folder(0, None))?;
         Ok(MemGround {
             held: Held::make(alloc, store)?,
-            plan: Arc::new(alloc, Plan::empty(alloc))?,
+            plan: Arc::new(alloc, Vec::new(alloc))?,
             count: 0,
         })
     }
@@ -95,7 +95,7 @@ impl MemGround {
         ensures refused { IfErr result (λ e. (put_refusal self.old.files path.now ≡ Some e) ⊎ (e ≡ PutError.OutOfMemory)) }
         ensures same { OnErr result (self.new ≡ self.old) }
     {
-        let bytes = Vec::from_slice(self.plan.allocator(), bytes)?;
+        let bytes = Vec::from_slice(self.allocator(), bytes)?;
         let body = Body::File(bytes);
         self.put(path, Node { body, mtime })
     }
@@ -138,7 +138,7 @@ impl MemGround {
 
     // The allocator of its memory.
     pub(crate) fn allocator(&self) -> Global {
-        self.plan.allocator()
+        *self.plan.allocator()
     }
 
     // Whether the call is planned to fail at the path. If so, it counts as a fault.
@@ -148,7 +148,7 @@ impl MemGround {
         ensures count { RoseBy 0 self.old.count self.new.count }
         ensures cause { IsTrue result → RoseBy 1 self.old.count self.new.count }
     {
-        let planned = self.plan.has(call, path);
+        let planned = has(&self.plan, call, path);
         if planned {
             self.count = self.count.saturating_add(1);
         }
@@ -176,7 +176,7 @@ impl MemGround {
         if self.fails(Call::Spans, path) {
             return Err(SpanError::Failed);
         }
-        let fails = self.plan.has(Call::Write, path);
+        let fails = has(&self.plan, Call::Write, path);
         let spans = spans_of(alloc, path, cuts, tells, fails)?;
         let room = room_for(alloc, &spans)?;
         self.held.cut_out(alloc, path, cuts, room)?;
@@ -203,7 +203,7 @@ impl MemGround {
         ensures refused { IfErr result (λ e. (put_refusal self.old.files path.now ≡ Some e) ⊎ (e ≡ PutError.OutOfMemory)) }
         ensures same { OnErr result (self.new ≡ self.old) }
     {
-        let alloc = self.plan.allocator();
+        let alloc = self.allocator();
         if let Some(refused) = self.held.put_refusal(alloc, path)? {
             return Err(refused);
         }
@@ -239,10 +239,11 @@ fn folder(far: u64, mtime: Option<u64>) -> Node
 
 // Adds a call to the plan, or to a copy of it if readers hold this one.
 fn add_to(plan: &mut Arc<Plan>, call: Call, path: Path) -> Result<(), AllocError>
-    ensures ok { OnOk result (arc_value plan.new ≡ arc_value plan.old ++ (call, path) ∷ []) }
-    ensures err { OnErr result (arc_value plan.new ≡ arc_value plan.old) }
+    ensures ok { OnOk result ((arc_value plan.new).items ≡ (arc_value plan.old).items ++ (call, path) ∷ []) }
+    ensures err { OnErr result ((arc_value plan.new).items ≡ (arc_value plan.old).items) }
 {
-    Arc::make_mut(plan)?.add(call, path)
+    Arc::make_mut(plan)?.push((call, path))?;
+    Ok(())
 }
 
 impl Looks for MemGround {

@@ -11,7 +11,7 @@ ghost use Rattle.files_mem.specs.Planned.{is_planned};
 ghost use Rattle.files_mem.specs.Memory.{answered, Acts};
 
 use crate::nodes::{Body, Node};
-use crate::plans::{Call, Plan};
+use crate::plans::{Call, Plan, has};
 use crate::stores::Store;
 use crate::untold::Looks;
 use outside::{LinkText, Plot, Stat, Tops, WriteError};
@@ -39,7 +39,7 @@ impl Model for MemPart {
 
     ghost coded = { memory_code };
 
-    ghost view = { λ p. record { files = p.store; planned = arc_value p.plan; count = p.count; area = under p.tops } };
+    ghost view = { λ p. record { files = p.store; planned = (arc_value p.plan).items; count = p.count; area = under p.tops } };
 
     ghost invariant = { λ p. IsPart p.tops (p.store) };
 }
@@ -47,7 +47,7 @@ impl Model for MemPart {
 impl MemPart {
     pub(crate) fn make(store: Store, tops: Tops, plan: Arc<Plan>) -> MemPart
         requires { IsPart tops (store) }
-        ensures { result ≡ record { files = store; planned = arc_value plan; count = 0; area = under tops } }
+        ensures { result ≡ record { files = store; planned = (arc_value plan).items; count = 0; area = under tops } }
     {
         MemPart {
             store,
@@ -73,7 +73,7 @@ impl MemPart {
         ensures count { RoseBy 0 self.old.count self.new.count }
         ensures cause { IsTrue result → RoseBy 1 self.old.count self.new.count }
     {
-        let planned = self.plan.has(call, path);
+        let planned = has(&self.plan, call, path);
         if planned {
             self.count = self.count.saturating_add(1);
         }

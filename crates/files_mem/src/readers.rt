@@ -9,7 +9,7 @@ ghost use Rattle.outside.specs.Tree.{Files, Lists, AreNames, IsTree, Reads, is_d
 ghost use Rattle.files_mem.specs.Planned.{is_planned};
 ghost use Rattle.files_mem.specs.Memory.{Memory, FillsFrom, answered};
 
-use crate::plans::{Call, Plan};
+use crate::plans::{Call, Plan, has};
 use crate::stores::Store;
 use outside::{Failed, Kind, LinkError, LinkText, ListError, Listing, ReadError, Stat, Tree};
 use path_text::{OutOfMemory, Path};
@@ -35,7 +35,7 @@ impl Model for MemReader {
 
     ghost coded = { memory_code };
 
-    ghost view = { λ r. record { files = arc_value r.store; planned = arc_value r.plan; count = r.count; area = nothing_lent } };
+    ghost view = { λ r. record { files = arc_value r.store; planned = (arc_value r.plan).items; count = r.count; area = nothing_lent } };
 
     ghost invariant = { λ r. IsTree (arc_value r.store) };
 }
@@ -44,7 +44,7 @@ impl MemReader {
     /// A reader that has not failed yet.
     pub(crate) fn make(store: Arc<Store>, plan: Arc<Plan>) -> MemReader
         requires { IsTree (arc_value store) }
-        ensures { result ≡ record { files = arc_value store; planned = arc_value plan; count = 0; area = nothing_lent } }
+        ensures { result ≡ record { files = arc_value store; planned = (arc_value plan).items; count = 0; area = nothing_lent } }
     {
         MemReader {
             store,
@@ -58,7 +58,7 @@ impl MemReader {
         ensures planned { result ≡ is_planned call path.now self.old.planned }
         ensures counted { self.new ≡ answered (is_planned call path.now self.old.planned) self.old }
     {
-        let planned = self.plan.has(call, path);
+        let planned = has(&self.plan, call, path);
         if planned {
             self.count = self.count.saturating_add(1);
         }

@@ -1,4 +1,5 @@
-use Rattle.files_mem.proofs.Prelude.{◌≡◌, refl, ap, sym, ◌∙◌, is_some, position, Cut, Some, cuts_at, first_index, first_found, is_first, is_of, rest_there, told_there}
+use Rattle.files_mem.proofs.Prelude.{◌≡◌, refl, ap, sym, ◌∙◌, is_some, position, Some, cuts_at, first_index, first_found, is_first, is_of, rest_there}
+use Rattle.files_mem.proofs.Prelude.{told_there}
 use Rattle.files_mem.proofs.cuttings.take.Goals.{After-remove}
 use Rattle.files_mem.proofs.cuttings.take.Goals as goal
 
