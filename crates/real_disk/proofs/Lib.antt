@@ -1,3 +1,2 @@
 mod Prelude
-pub mod Ascending
 pub mod Spanning

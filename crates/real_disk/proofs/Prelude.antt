@@ -1,21 +1,15 @@
 -- The names from elsewhere that the proofs of this crate cite, passed on from one place. Declares nothing.
-pub use Rattle.std.proofs.Common.{IsTrue, List, None, Some, [], ap, arith, drop, is_some, length, map, refl, rules, subst, suc, sym, take, true, zero, ℕ, ◌++◌}
+pub use Rattle.std.proofs.Common.{IsTrue, List, None, Some, [], ap, arith, drop, is_some, map, refl, subst, sym, take, true, ℕ, ◌++◌}
 pub use Rattle.std.proofs.Common.{◌+◌, ◌∙◌, ◌∷◌, ◌≡◌}
 pub use Rattle.std.proofs.lemmas.List.{take_all}
 pub use Rattle.std.proofs.lemmas.List.Elements.{All-cons}
 pub use Rattle.std.proofs.lemmas.List.Sums.{sum_by_more}
-pub use Rattle.std.specs.Cmp.{IsTotalOrder, nat_cmp_total}
-pub use Rattle.std.specs.Cmp.Lexicographic.{lists_total, slice_cmp}
-pub use Rattle.std.specs.List.{AllByRecursion, list_any, sum_by}
+pub use Rattle.std.specs.List.{list_any, sum_by}
 pub use Rattle.std.specs.Option.{option_map}
-pub use Rattle.std.specs.Ordering.{is_lt, nat_cmp}
-pub use Rattle.std.specs.Prelude.{All, Err, Ok, OnErr, Option, Result, slice_get}
-pub use Rattle.std.specs.declared.cmp.Ordering.{Ordering}
-pub use Rattle.std.specs.declared.cmp.Ordering.TheVariants.{Equal, Greater, Less}
+pub use Rattle.std.specs.Prelude.{All, Err, Ok, OnErr, Option, Result}
 pub use Rattle.outside.proofs.Cuts.{first_found, is_first, rest_there}
 pub use Rattle.outside.specs.Count.{capped}
 pub use Rattle.outside.specs.Lease.{same_tops}
 pub use Rattle.outside.specs.Spans.{Piece, ascends_above, cuts_at, pieces, pieces_from, zeros_of}
-pub use Rattle.outside.specs.Tree.{AreNames}
 pub use Rattle.outside.specs.Writes.{Cut}
 pub use Rattle.real_disk.specs.Spans.{Seen, blank, count_of, piece_of, untold}

@@ -1,24 +1,18 @@
 //! Looks at the files of the system.
-ghost use Rattle.std.specs.Prelude.{◌≡◌, ◌≢◌, ◌≤◌, ℕ, pos, negsuc, length, IfOk, IfSome, IsErrOf, Some, None};
+ghost use Rattle.std.specs.Prelude.{◌≡◌, ◌≤◌, ℕ, length, IfOk, IsErrOf, None};
 ghost use Rattle.outside.specs.Count.{RoseBy};
 ghost use Rattle.outside.specs.Tree.{AreNames};
 
-use crate::answers::{is_absent, opened, text_of, was_read};
-use crate::handles::{Handle, to_read};
-use crate::known::Directory;
-use crate::names::FoundNames;
-use crate::parents::Parents;
-use crate::watch::{Call, Watch};
-use outside::{Failed, Kind, LinkError, LinkText, ListError, Listing, ReadError, Stat, Tree};
+use disk_calls::{Call, Disk, FoundNames, Handle, Watch, is_absent, opened, text_of, was_read};
+use outside::{Failed, LinkError, LinkText, ListError, Listing, ReadError, Stat, Tree};
 use path_text::{OutOfMemory, Path};
 use std::alloc::Global;
-use std::fs::{Files, Metadata};
+use std::fs::Files;
+use std::io;
 use std::io::Read;
 use std::marker::Model;
 use std::os::fd::AsRawFd;
-use std::os::unix::fs::{FileExt, MetadataExt};
-use std::path::PathBuf;
-use std::{fs, io};
+use std::os::unix::fs::FileExt;
 
 /// How many bytes of names are asked of the system at a time.
 const PIECE: usize = 32768;
@@ -26,10 +20,9 @@ const PIECE: usize = 32768;
 /// Looks at the files of a system, seen as its count of faults. It tells no tree.
 #[derive(Drop)]
 pub struct RealReader<R: Files> {
-    system: R,
+    disk: Disk<R>,
     // The system writes names into it. It is made once.
     buffer: Vec<u8>,
-    parents: Parents<R::File>,
     // The two files that were read last, the later one first, until the next look at a path. So two files that are compared stay
     // open while they are read in turn, and one that is removed meanwhile is read to its end.
     last: Option<Handle<R::File>>,
@@ -46,29 +39,24 @@ impl<R: Files> Model for RealReader<R> {
 }
 
 impl<R: Files + Copy> RealReader<R> {
-    /// A reader that has not failed yet, and knows these directories.
-    pub(crate) fn make(
-        alloc: Global,
-        system: R,
-        parents: Parents<R::File>,
-    ) -> Result<RealReader<R>, OutOfMemory>
+    /// A reader of these files that has not failed yet.
+    pub(crate) fn make(alloc: Global, disk: Disk<R>) -> Result<RealReader<R>, OutOfMemory>
         ensures { IfOk result (λ reader. reader ≡ 0) }
     {
         let buffer = vec![in alloc; 0u8; PIECE]?;
         Ok(RealReader {
-            system,
+            disk,
             buffer,
-            parents,
             last: None,
             before: None,
             count: 0,
         })
     }
 
-    /// Its knowledge of directories.
-    pub(crate) fn into_parents(self) -> Parents<R::File> {
-        let RealReader { parents, .. } = self;
-        parents
+    /// The files, with its knowledge of directories.
+    pub(crate) fn into_disk(self) -> Disk<R> {
+        let RealReader { disk, .. } = self;
+        disk
     }
 }
 
@@ -86,32 +74,6 @@ impl<R: Files + Watch> RealReader<R>
 where
     R::File: FileExt + AsRawFd,
 {
-    // The stat of the entry at the path. A directory is known from then on.
-    fn look(&mut self, path: &Path) -> io::Result<Option<Stat>>
-        ensures same { self.new ≡ self.old }
-        ensures size { IfOk result (λ answer. IfSome answer (λ stat. stat.kind ≢ Kind.File → stat.size ≡ 0)) }
-    {
-        let name = self.parents.name_to_look(&self.system, path);
-        let told = fs::symlink_metadata(&self.system, name);
-        // The answer is large, so it is read in its place.
-        match &told {
-            Ok(data) => self.seen(path, data),
-            Err(_) => unseen(told),
-        }
-    }
-
-    // The stat of the entry that the system found at the path. A directory is known from then on.
-    fn seen(&mut self, path: &Path, data: &Metadata) -> io::Result<Option<Stat>>
-        ensures same { self.new ≡ self.old }
-        ensures size { IfOk result (λ answer. IfSome answer (λ stat. stat.kind ≢ Kind.File → stat.size ≡ 0)) }
-    {
-        if data.is_dir() {
-            let directory = Directory::of(data);
-            self.parents.keep_first(&self.system, path, directory)?;
-        }
-        Ok(Some(stat_of(data)))
-    }
-
     // Closes the files that were read last.
     fn close(&mut self)
         ensures { self.new ≡ self.old }
@@ -130,7 +92,7 @@ where
     {
         if let Some(file) = self.open_file(path) {
             let told = file.read_at(into, at);
-            return was_read(&self.system, path, told);
+            return was_read(self.disk.system(), path, told);
         }
         self.read_opened(path, at, into)
     }
@@ -141,32 +103,13 @@ where
         ensures most { IfOk result (λ n. n ≤ length into.new) }
         ensures untouched { IsErrOf result ReadError.NotFile → into.new ≡ into.old }
     {
-        let told = self.opened(path);
-        let file = opened(&self.system, path, told)?;
+        let told = self.disk.open_to_read(path);
+        let file = opened(self.disk.system(), path, told)?;
         let told = file.read_at(into, at);
-        let n = was_read(&self.system, path, told)?;
+        let n = was_read(self.disk.system(), path, told)?;
         self.before = self.last.take();
         self.last = Handle::keep(path, file);
         Ok(n)
-    }
-
-    // Opens the file at the path, in the directory over it.
-    fn opened(&mut self, path: &Path) -> io::Result<R::File>
-        ensures { self.new ≡ self.old }
-    {
-        self.parents.go(&self.system, path, 2)?;
-        let in_private = self.parents.in_private();
-        let told = to_read(&self.system, self.parents.way(), in_private);
-        self.parents.told(&self.system, told)
-    }
-
-    // The text of the link at the path, in the directory over it.
-    fn text_at(&mut self, alloc: Global, path: &Path) -> io::Result<PathBuf>
-        ensures { self.new ≡ self.old }
-    {
-        self.parents.go(&self.system, path, 1)?;
-        let told = self.system.read_link(alloc, self.parents.way());
-        self.parents.told(&self.system, told)
     }
 
     // The file at the path, if it is open.
@@ -195,14 +138,14 @@ where
     /// A link is not followed. If a name in the middle of the path is not a directory, nothing is at the path.
     fn stat(&mut self, path: &Path) -> Result<Option<Stat>, Failed> {
         self.close();
-        self.parents.leave(path);
-        match self.look(path) {
+        self.disk.leave(path);
+        match self.disk.look(path) {
             Ok(stat) => {
-                self.system.did(Call::Stat, 1);
+                self.disk.system().did(Call::Stat, 1);
                 Ok(stat)
             }
             Err(e) => {
-                self.system.failed(Call::Stat, path, &e);
+                self.disk.system().failed(Call::Stat, path, &e);
                 Err(self.fault())
             }
         }
@@ -210,9 +153,9 @@ where
 
     /// If another directory or a link is in the place of a known one, that is a fault. A link in the place of any other is not followed.
     fn list(&mut self, alloc: Global, path: &Path) -> Result<Listing, ListError> {
-        let told = self.parents.open_dir(&self.system, path);
+        let told = self.disk.open_dir(path);
         let buffer = self.buffer.as_mut_slice();
-        match listing_of(&self.system, alloc, path, told, buffer) {
+        match listing_of(self.disk.system(), alloc, path, told, buffer) {
             Ok(listing) => {
                 self.count = self.count.saturating_add(listing.unnamed());
                 Ok(listing)
@@ -237,8 +180,8 @@ where
 
     /// The text is that of the link itself. A text that is not valid is a fault, for example one that is not UTF-8.
     fn read_link(&mut self, alloc: Global, path: &Path) -> Result<LinkText, LinkError> {
-        let told = self.text_at(alloc, path);
-        match text_of(&self.system, alloc, path, told) {
+        let told = self.disk.text_at(alloc, path);
+        match text_of(self.disk.system(), alloc, path, told) {
             Err(LinkError::Failed) => {
                 self.fault();
                 Err(LinkError::Failed)
@@ -253,45 +196,6 @@ fn file_of<'a, F: Drop>(kept: &'a Option<Handle<F>>, path: &Path) -> Option<&'a 
     match kept {
         Some(handle) => handle.of(path),
         None => None,
-    }
-}
-
-// The error of the system, or nothing if nothing is at the path.
-fn unseen(told: io::Result<Metadata>) -> io::Result<Option<Stat>>
-    ensures { IfOk result (λ answer. answer ≡ None) }
-{
-    match told {
-        Err(e) if !is_absent(e.kind()) => Err(e),
-        _ => Ok(None),
-    }
-}
-
-fn stat_of(data: &Metadata) -> Stat
-    ensures { result.kind ≢ Kind.File → result.size ≡ 0 }
-{
-    let kind = kind_of(data);
-    let size = if kind == Kind::File { data.len() } else { 0 };
-    let mtime = time_of(data.mtime());
-    Stat { kind, size, mtime }
-}
-
-/// The seconds since 1970 of a stat. An earlier time is none.
-pub fn time_of(seconds: i64) -> Option<u64>
-    ensures known { (n : ℕ) → seconds ≡ pos n → result ≡ Some n }
-    ensures before { (n : ℕ) → seconds ≡ negsuc n → result ≡ None }
-{
-    u64::try_from(seconds).ok()
-}
-
-fn kind_of(data: &Metadata) -> Kind {
-    if data.is_file() {
-        Kind::File
-    } else if data.is_dir() {
-        Kind::Dir
-    } else if data.is_symlink() {
-        Kind::Link
-    } else {
-        Kind::Other
     }
 }
 

@@ -7,10 +7,9 @@ ghost use Rattle.outside.specs.Spans.{are_cuts, cuts_at, pieces, without_cut, ze
 ghost use Rattle.real_disk.specs.Spans.{count_of, piece_of, untold};
 
 use crate::disk::RealReader;
-use crate::parents::Parents;
 use crate::spans::{Cuttings, RealSpan, faults_of, spans_of};
-use crate::watch::Watch;
 use crate::writers::RealWriter;
+use disk_calls::{Disk, Watch};
 use outside::{Ground, Lent, LinkText, Plot, SpanError, Tops, Tree, Wide, WriteError};
 use path_text::{OutOfMemory, Path};
 use std::alloc::Global;
@@ -65,9 +64,8 @@ where
         let mut key = [0u8; 16];
         // If the system gives no random bytes, the key can be guessed. Then two paths of one hash may be taken for one.
         let _ = system.fill_bytes(&mut key);
-        let parents = Parents::make(alloc, &system, key);
         RealGround {
-            writer: RealWriter::make(system, parents),
+            writer: RealWriter::make(Disk::make(alloc, system, key)),
             lent: Lent::make(alloc),
             cut: Cuttings::make(alloc),
         }
@@ -201,19 +199,19 @@ where
     type Part = RealPart<R>;
 
     fn reader(&mut self, alloc: Global) -> Result<RealReader<R>, OutOfMemory> {
-        let parents = self.writer.share()?;
-        RealReader::make(alloc, self.writer.system(), parents)
+        let disk = self.writer.share()?;
+        RealReader::make(alloc, disk)
     }
 
     fn take_reader(&mut self, reader: RealReader<R>) {
         self.writer.add(reader.faults());
-        self.writer.take(reader.into_parents());
+        self.writer.take(reader.into_disk());
     }
 
     fn lease(&mut self, alloc: Global, tops: &[Path]) -> Result<RealPart<R>, OutOfMemory> {
-        let parents = self.writer.share()?;
+        let disk = self.writer.share()?;
         let tops = self.lent.lend(alloc, tops)?;
-        let writer = RealWriter::make(self.writer.system(), parents);
+        let writer = RealWriter::make(disk);
         Ok(RealPart { writer, tops })
     }
 
@@ -221,7 +219,7 @@ where
         self.writer.add(part.writer.faults());
         self.lent.end(&part.tops);
         let RealPart { writer, .. } = part;
-        self.writer.take(writer.into_parents());
+        self.writer.take(writer.into_disk());
     }
 }
 

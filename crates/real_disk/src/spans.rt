@@ -7,8 +7,7 @@ ghost use Rattle.outside.specs.Count.{RoseBy, capped};
 ghost use Rattle.outside.specs.Spans.{Piece, are_cuts, ascends_above, cuts_at, pieces, pieces_from, without_cut};
 ghost use Rattle.real_disk.specs.Spans.{blank, count_of, piece_of, untold};
 
-use crate::answers::wrote;
-use crate::watch::Watch;
+use disk_calls::{Watch, wrote};
 use outside::{Span, SpanError, WriteError};
 use path_text::{OutOfMemory, Path};
 use std::alloc::Global;

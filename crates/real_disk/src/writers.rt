@@ -3,28 +3,21 @@ ghost use Rattle.std.specs.Prelude.{◌≡◌, ◌≤◌, IfErr, IsErrOf, IsTrue
 ghost use Rattle.outside.specs.Count.{RoseBy, capped};
 ghost use Rattle.outside.specs.Writes.{may_make, may_change, may_empty};
 
-use crate::answers::{changed, emptied, is_absent, made, wrote};
-use crate::handles::{Handle, to_make, to_write};
-use crate::here::another;
-use crate::known::Directory;
-use crate::parents::Parents;
-use crate::watch::{Call, Watch};
+use disk_calls::{Call, Disk, Handle, Watch, changed, emptied, made, wrote};
 use outside::{LinkText, WriteError};
 use path_text::{OutOfMemory, Path};
 use std::alloc::Global;
 use std::fs::Files;
-use std::io::ErrorKind;
+use std::io;
 use std::marker::Model;
 use std::os::fd::AsRawFd;
 use std::os::unix::fs::FileExt;
 use std::sync::Arc;
-use std::{fs, io};
 
 /// Writes to the files of a system. It is seen as its count of faults. The file that was made or written last stays open.
 #[derive(Drop)]
 pub struct RealWriter<R: Files> {
-    system: R,
-    parents: Parents<R::File>,
+    disk: Disk<R>,
     written: Option<Handle<R::File>>,
     count: u64,
 }
@@ -38,13 +31,12 @@ impl<R: Files> Model for RealWriter<R> {
 }
 
 impl<R: Files> RealWriter<R> {
-    /// It has no fault yet, and knows these directories.
-    pub fn make(system: R, parents: Parents<R::File>) -> RealWriter<R>
+    /// A writer to these files, with no fault yet.
+    pub fn make(disk: Disk<R>) -> RealWriter<R>
         ensures { result ≡ 0 }
     {
         RealWriter {
-            system,
-            parents,
+            disk,
             written: None,
             count: 0,
         }
@@ -54,7 +46,7 @@ impl<R: Files> RealWriter<R> {
     pub fn work_alone(&mut self, is_alone: bool)
         ensures { self.new ≡ self.old }
     {
-        self.parents.work_alone(is_alone);
+        self.disk.work_alone(is_alone);
     }
 
     /// How often it has failed.
@@ -70,20 +62,6 @@ impl<R: Files> RealWriter<R> {
         ensures rises { self.old ≤ self.new }
     {
         self.count = self.count.saturating_add(faults);
-    }
-
-    /// Its knowledge of directories, for a reader or a part.
-    pub fn share(&mut self) -> Result<Parents<R::File>, OutOfMemory>
-        ensures { self.new ≡ self.old }
-    {
-        self.parents.share()
-    }
-
-    /// Takes the knowledge of directories of a reader or a part.
-    pub fn take(&mut self, parents: Parents<R::File>)
-        ensures { self.new ≡ self.old }
-    {
-        self.parents.take(parents);
     }
 
     // Counts a fault if the answer is one.
@@ -102,13 +80,27 @@ impl<R: Files> RealWriter<R> {
 impl<R: Files + Watch + Copy> RealWriter<R> {
     /// The system that it writes to, for another object that asks it.
     pub fn system(&self) -> R {
-        self.system.apart()
+        self.disk.system().apart()
     }
 
-    /// Its knowledge of directories.
-    pub fn into_parents(self) -> Parents<R::File> {
-        let RealWriter { parents, .. } = self;
-        parents
+    /// The files with its knowledge of directories, for a reader or a part.
+    pub fn share(&mut self) -> Result<Disk<R>, OutOfMemory>
+        ensures { self.new ≡ self.old }
+    {
+        self.disk.share()
+    }
+
+    /// Takes the knowledge of directories of a reader or a part.
+    pub fn take(&mut self, disk: Disk<R>)
+        ensures { self.new ≡ self.old }
+    {
+        self.disk.take(disk);
+    }
+
+    /// The files, with its knowledge of directories.
+    pub fn into_disk(self) -> Disk<R> {
+        let RealWriter { disk, .. } = self;
+        disk
     }
 }
 
@@ -122,8 +114,8 @@ where
         ensures count { RoseBy 0 self.old self.new }
         ensures cause { IsErrOf result WriteError.Failed → RoseBy 1 self.old self.new }
     {
-        let told = self.dir_made(path);
-        let told = made(&self.system, Call::MakeDir, path, told);
+        let told = self.disk.make_dir(path);
+        let told = made(self.disk.system(), Call::MakeDir, path, told);
         self.counted(told)
     }
 
@@ -134,7 +126,7 @@ where
         ensures cause { IsErrOf result WriteError.Failed → RoseBy 1 self.old self.new }
     {
         let told = self.file_made(path);
-        let told = made(&self.system, Call::MakeFile, path, told);
+        let told = made(self.disk.system(), Call::MakeFile, path, told);
         self.counted(told)
     }
 
@@ -144,8 +136,8 @@ where
         ensures count { RoseBy 0 self.old self.new }
         ensures cause { IsErrOf result WriteError.Failed → RoseBy 1 self.old self.new }
     {
-        let told = self.link_made(path, text);
-        let told = made(&self.system, Call::MakeLink, path, told);
+        let told = self.disk.make_link(path, text);
+        let told = made(self.disk.system(), Call::MakeLink, path, told);
         self.counted(told)
     }
 
@@ -173,8 +165,8 @@ where
                 return Ok(Some(Arc::new(alloc, file)?));
             }
         }
-        let told = self.file_opened(path);
-        match changed(&self.system, Call::Open, path, told) {
+        let told = self.disk.open_to_write(path);
+        match changed(self.disk.system(), Call::Open, path, told) {
             Ok(file) => Ok(Some(Arc::new(alloc, file)?)),
             Err(WriteError::OutOfMemory) => Err(OutOfMemory),
             Err(_) => Ok(None),
@@ -188,8 +180,8 @@ where
         ensures cause { IsErrOf result WriteError.Failed → RoseBy 1 self.old self.new }
     {
         self.written = None;
-        let told = self.file_removed(path);
-        let told = changed(&self.system, Call::RemoveFile, path, told);
+        let told = self.disk.remove_file(path);
+        let told = changed(self.disk.system(), Call::RemoveFile, path, told);
         self.counted(told)
     }
 
@@ -199,116 +191,23 @@ where
         ensures count { RoseBy 0 self.old self.new }
         ensures cause { IsErrOf result WriteError.Failed → RoseBy 1 self.old self.new }
     {
-        let told = self.dir_removed(path);
-        let told = emptied(&self.system, path, told);
+        let told = self.disk.remove_dir(path);
+        let told = emptied(self.disk.system(), path, told);
         self.counted(told)
     }
 }
 
-// The same calls, with the answers of the system. Each acts in the directory above its path.
 impl<R: Files + Watch> RealWriter<R>
 where
     R::File: FileExt + AsRawFd,
 {
-    // A directory that was made, or that exists already, is known from then on. If another entry has taken the place of the one that was
-    // made, that is a fault.
-    fn dir_made(&mut self, path: &Path) -> io::Result<()>
-        ensures { self.new ≡ self.old }
-    {
-        self.parents.go(&self.system, path, 2)?;
-        self.parents.forget(path);
-        let told = fs::create_dir(&self.system, self.parents.way());
-        match self.parents.told(&self.system, told) {
-            Ok(()) => self.keep_made(path),
-            Err(e) if e.kind() == ErrorKind::AlreadyExists => {
-                let _ = self.keep(path)?;
-                Err(e)
-            }
-            Err(e) => Err(e),
-        }
-    }
-
-    // Keeps the directory that was made at the current path. If another entry has taken its place, that is a fault.
-    fn keep_made(&mut self, path: &Path) -> io::Result<()>
-        ensures { self.new ≡ self.old }
-    {
-        if self.keep(path)? {
-            Ok(())
-        } else {
-            Err(another())
-        }
-    }
-
-    // Keeps which directory is at the current path, and answers whether there is one. If there is none, nothing is done below the path.
-    fn keep(&mut self, path: &Path) -> io::Result<bool>
-        ensures { self.new ≡ self.old }
-    {
-        let data = fs::symlink_metadata(&self.system, self.parents.way())?;
-        if data.is_dir() {
-            self.parents.keep(&self.system, path, Directory::of(&data))?;
-        } else {
-            self.parents.refuse(path)?;
-        }
-        Ok(data.is_dir())
-    }
-
     // The file stays open.
     fn file_made(&mut self, path: &Path) -> io::Result<()>
         ensures { self.new ≡ self.old }
     {
-        self.parents.go(&self.system, path, 1)?;
-        let told = to_make(&self.system, self.parents.way());
-        let file = self.parents.told(&self.system, told)?;
+        let file = self.disk.make_file(path)?;
         self.written = Handle::keep(path, file);
         Ok(())
-    }
-
-    fn link_made(&mut self, path: &Path, text: &LinkText) -> io::Result<()>
-        ensures { self.new ≡ self.old }
-    {
-        self.parents.go(&self.system, path, 1)?;
-        let told = self.system.symlink(text.text(), self.parents.way());
-        self.parents.told(&self.system, told)
-    }
-
-    fn file_opened(&mut self, path: &Path) -> io::Result<R::File>
-        ensures { self.new ≡ self.old }
-    {
-        self.parents.go(&self.system, path, 2)?;
-        let in_private = self.parents.in_private();
-        let told = to_write(&self.system, self.parents.way(), in_private);
-        self.parents.told(&self.system, told)
-    }
-
-    fn file_removed(&mut self, path: &Path) -> io::Result<()>
-        ensures { self.new ≡ self.old }
-    {
-        self.parents.go(&self.system, path, 1)?;
-        let told = fs::remove_file(&self.system, self.parents.way());
-        self.parents.told(&self.system, told)
-    }
-
-    // For "not a directory" the path itself may be no directory, or one above it. The second is answered as if nothing were there.
-    fn dir_removed(&mut self, path: &Path) -> io::Result<()>
-        ensures { self.new ≡ self.old }
-    {
-        self.parents.go(&self.system, path, 1)?;
-        self.parents.forget(path);
-        let told = fs::remove_dir(&self.system, self.parents.way());
-        match self.parents.told(&self.system, told) {
-            Err(e) if e.kind() == ErrorKind::NotADirectory && self.is_gone() => {
-                Err(io::Error::from(ErrorKind::NotFound))
-            }
-            told => told,
-        }
-    }
-
-    // Whether nothing is at the current path.
-    fn is_gone(&self) -> bool {
-        match fs::symlink_metadata(&self.system, self.parents.way()) {
-            Ok(_) => false,
-            Err(e) => is_absent(e.kind()),
-        }
     }
 
     // Writes through the open handle of the file, or opens one.
@@ -319,13 +218,13 @@ where
         if let Some(handle) = &self.written {
             if let Some(file) = handle.of(path) {
                 let told = file.write_at(bytes, at);
-                return wrote(&self.system, path, told, bytes.len());
+                return wrote(self.disk.system(), path, told, bytes.len());
             }
         }
-        let told = self.file_opened(path);
-        let file = changed(&self.system, Call::Open, path, told)?;
+        let told = self.disk.open_to_write(path);
+        let file = changed(self.disk.system(), Call::Open, path, told)?;
         let told = file.write_at(bytes, at);
-        wrote(&self.system, path, told, bytes.len())?;
+        wrote(self.disk.system(), path, told, bytes.len())?;
         self.written = Handle::keep(path, file);
         Ok(())
     }

@@ -1,6 +1,6 @@
-use Rattle.real_disk.proofs.Prelude.{◌∙◌, sym, subst, AreNames}
-use Rattle.real_disk.proofs.Ascending.{no_names}
-use Rattle.real_disk.proofs.names.FoundNames.listing.Goals as goal
+use Rattle.disk_calls.proofs.Prelude.{◌∙◌, sym, subst, AreNames}
+use Rattle.disk_calls.proofs.Ascending.{no_names}
+use Rattle.disk_calls.proofs.names.FoundNames.listing.Goals as goal
 
 pub loop-name-init : goal.loop-name-init
 loop-name-init c =

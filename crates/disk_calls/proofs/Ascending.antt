@@ -1,6 +1,6 @@
 -- Names that ascend still ascend with one more above the last.
-use Rattle.real_disk.proofs.Prelude.{◌≡◌, ℕ, ◌+◌, List, [], ◌∷◌, ◌++◌, length, Some, zero, suc, arith, true, refl, subst, sym, slice_get, AllByRecursion}
-use Rattle.real_disk.proofs.Prelude.{Ordering, Less, Equal, Greater, IsTotalOrder, nat_cmp_total, slice_cmp, lists_total, nat_cmp, is_lt, AreNames}
+use Rattle.disk_calls.proofs.Prelude.{◌≡◌, ℕ, ◌+◌, List, [], ◌∷◌, ◌++◌, length, Some, zero, suc, arith, true, refl, subst, sym, slice_get, AllByRecursion}
+use Rattle.disk_calls.proofs.Prelude.{Ordering, Less, Equal, Greater, IsTotalOrder, nat_cmp_total, slice_cmp, lists_total, nat_cmp, is_lt, AreNames}
 use Rattle.std.specs.List.Sorted.{IsStrictlySortedBy}
 
 order : IsTotalOrder (slice_cmp nat_cmp)

@@ -29,8 +29,9 @@
 //! - It may be read and not entered, so the system does not tell its `..`: its names. It does not stay open.
 //! - The system has no names for open directories: the directory is compared before and after it is opened by its path. A link in its
 //!   place is not followed, and is a failure.
-use crate::above::{Above, Place, has_exposed_from, has_names, is_in_place, look_above};
+use crate::above::{Place, has_names, is_in_place};
 use crate::answers::is_absent;
+use crate::dirs::KnownDirs;
 use crate::here::{Here, another, is_at, is_below};
 use crate::known::{Directory, Found, Identity, Known, PathHash};
 use crate::watch::Watch;
@@ -48,20 +49,14 @@ use std::{fs, io, mem};
 #[derive(Drop)]
 pub struct Parents<F: Drop> {
     alloc: Global,
-    known: Known,
+    dirs: KnownDirs,
     // Whether the system has names for open directories.
     has_names: bool,
-    // The user who runs the program, if the system gives it.
-    user: Option<u32>,
     // The directory of the current path, and the one before. Files that are compared are read in turn, so both stay open.
     here: Option<Here<F>>,
     other: Option<Here<F>>,
     // The path of the last directory that was seen to be in its place.
     seen: String,
-    // The path of the last directory that was found private.
-    private: String,
-    // The path of the last directory about which the system was asked, with those above it, and which no other user can replace.
-    safe: String,
     way: String,
     working: Working,
 }
@@ -75,28 +70,20 @@ impl<F: OpenFile + AsRawFd + Drop> Parents<F> {
             Err(_) => None,
         };
         let working = Working::fixed(alloc);
-        Parents::over(alloc, Known::make(alloc, key), has_names, user, working)
+        let dirs = KnownDirs::make(alloc, Known::make(alloc, key), user);
+        Parents::over(alloc, dirs, has_names, working)
     }
 }
 
 impl<F: Drop> Parents<F> {
-    fn over(
-        alloc: Global,
-        known: Known,
-        has_names: bool,
-        user: Option<u32>,
-        working: Working,
-    ) -> Parents<F> {
+    fn over(alloc: Global, dirs: KnownDirs, has_names: bool, working: Working) -> Parents<F> {
         Parents {
             alloc,
-            known,
+            dirs,
             has_names,
-            user,
             here: None,
             other: None,
             seen: String::new(alloc),
-            private: String::new(alloc),
-            safe: String::new(alloc),
             way: String::new(alloc),
             working,
         }
@@ -113,19 +100,17 @@ impl<F: Drop> Parents<F> {
 
     /// A copy of all knowledge, for a reader or a part.
     pub fn share(&mut self) -> Result<Parents<F>, OutOfMemory> {
-        let known = self.known.share()?;
+        let dirs = self.dirs.share(self.alloc)?;
         let working = self.working.share()?;
-        Ok(Parents::over(self.alloc, known, self.has_names, self.user, working))
+        Ok(Parents::over(self.alloc, dirs, self.has_names, working))
     }
 
     /// Takes the knowledge of a reader or a part.
     pub fn take(&mut self, other: Parents<F>) {
-        let Parents { known, working, .. } = other;
+        let Parents { dirs, working, .. } = other;
         self.close();
         self.seen.clear();
-        self.private.clear();
-        self.safe.clear();
-        self.known.take(known);
+        self.dirs.take(dirs);
         self.working.take(working);
     }
 
@@ -140,39 +125,28 @@ impl<F: Drop> Parents<F> {
         self.working.forget(plain(path));
     }
 
-    /// Keeps which directory is at a path, in place of any other one.
+    /// Keeps which directory is at a path. If one is known there already, that one may stay.
     pub fn keep<R: Files>(
         &mut self,
         system: &R,
         path: &Path,
         directory: Directory,
+        known_stays: bool,
     ) -> io::Result<()> {
-        let hash = self.known.hash(plain(path));
+        let hash = self.dirs.hash(plain(path));
         self.keep_mode(system, plain(path), hash, directory);
-        self.known.keep(hash, directory.identity)
-    }
-
-    /// Keeps which directory is at a path, unless one is known there. That one stays.
-    pub fn keep_first<R: Files>(
-        &mut self,
-        system: &R,
-        path: &Path,
-        directory: Directory,
-    ) -> io::Result<()> {
-        let hash = self.known.hash(plain(path));
-        self.keep_mode(system, plain(path), hash, directory);
-        match self.known.find(hash) {
-            Found::Is(_) => Ok(()),
-            Found::Nothing | Found::Lost => self.known.keep(hash, directory.identity),
+        if known_stays && self.dirs.has(hash) {
+            return Ok(());
         }
+        self.dirs.keep(hash, directory.identity)
     }
 
     /// Keeps that another entry is in the place of a directory. Until a directory is made there, none is taken for it.
     pub fn refuse(&mut self, path: &Path) -> io::Result<()> {
         self.seen.clear();
         self.leave_below(plain(path));
-        let hash = self.known.hash(plain(path));
-        self.known.keep(hash, Identity::of_none())
+        let hash = self.dirs.hash(plain(path));
+        self.dirs.keep(hash, Identity::of_none())
     }
 
     // Keeps that the directory at a path is exposed, if it is. Then no directory below it counts as private any longer.
@@ -183,58 +157,11 @@ impl<F: Drop> Parents<F> {
         hash: PathHash,
         directory: Directory,
     ) {
-        if !self.is_newly_exposed(system, path, hash, directory) {
-            return;
+        if self.dirs.expose(system, path, hash, directory) {
+            self.leave_below(path);
+            // If there was no memory for that, each directory counts as exposed.
+            self.working.forget("");
         }
-        self.known.expose(hash);
-        self.private.clear();
-        self.safe.clear();
-        self.leave_below(path);
-        // If there was no memory for that, each directory counts as exposed.
-        self.working.forget("");
-    }
-
-    // Whether the directory at a path is exposed, and is not known to be so.
-    fn is_newly_exposed<R: Files>(
-        &mut self,
-        system: &R,
-        path: &str,
-        hash: PathHash,
-        directory: Directory,
-    ) -> bool {
-        let Some(user) = self.user else {
-            return false;
-        };
-        if self.known.is_exposed(hash) {
-            return false;
-        }
-        !(directory.is_own(user) && self.is_under_own(system, path, user))
-    }
-
-    // Whether no other user can replace the directories above a path. If the system was asked, the nearest one is kept, so that it is not asked
-    // again for another path in that directory.
-    fn is_under_own<R: Files>(&mut self, system: &R, path: &str, user: u32) -> bool {
-        let above = path.rsplit_once('/').unwrap_or(("", "")).0;
-        if !above.is_empty() && self.safe.as_str() == above {
-            return true;
-        }
-        match look_above(system, &self.known, path, user) {
-            Above::Exposed => false,
-            Above::Known => true,
-            Above::Asked => {
-                self.safe.clear();
-                // If there is no memory for the path, the system is asked again.
-                if self.safe.push_str(above).is_err() {
-                    self.safe.clear();
-                }
-                true
-            }
-        }
-    }
-
-    // The knowledge about the directory at a path.
-    fn find(&self, path: &str) -> Found {
-        self.known.find(self.known.hash(path))
     }
 
     // Closes those of the two directories that were used last that are at a path or below it.
@@ -247,32 +174,13 @@ impl<F: Drop> Parents<F> {
         }
     }
 
-    // Whether the directory at a path is private. Then neither it nor any above it is exposed.
-    fn is_private(&mut self, path: &str) -> bool {
-        if self.user.is_none() {
-            return false;
-        }
-        if !self.known.has_exposed() {
-            return true;
-        }
-        if has_exposed_from(&self.known, path, self.private.as_str()) {
-            return false;
-        }
-        self.private.clear();
-        // If there is no memory for the path, the next one is looked up again.
-        if self.private.push_str(path).is_err() {
-            self.private.clear();
-        }
-        true
-    }
-
     // Whether a call, which asks the system so often, names an entry of the directory at a path by its last name alone. It does so in the
     // working directory. A private directory at which the run looked may become that.
     fn is_alone<R: Watch>(&mut self, system: &R, path: &str, asks: u64) -> bool {
         match self.working.naming(path, asks) {
             Naming::Alone => true,
             Naming::Due => {
-                let may_enter = self.find(path).is_looked_at() && self.is_private(path);
+                let may_enter = self.dirs.find(path).is_looked_at() && self.dirs.is_private(path);
                 self.working.enter(system, path, may_enter)
             }
             Naming::Whole => false,
@@ -337,10 +245,10 @@ impl<F: Drop> Parents<F> {
     // directory the system is not asked.
     fn is_child<R: Files>(&mut self, system: &R, path: &Path) -> bool {
         let above = around(path).0;
-        if self.is_private(above) {
+        if self.dirs.is_private(above) {
             return true;
         }
-        let due = match self.find(above) {
+        let due = match self.dirs.find(above) {
             Found::Is(due) => due,
             Found::Nothing => return true,
             Found::Lost => return false,
@@ -418,8 +326,8 @@ impl<F: OpenFile + AsRawFd + Drop> Parents<F> {
     }
 
     fn entered<R: Files<File = F>>(&mut self, system: &R, path: &str) -> io::Result<Here<F>> {
-        let found = self.find(path);
-        if self.is_private(path) {
+        let found = self.dirs.find(path);
+        if self.dirs.is_private(path) {
             return Here::by_path(self.alloc, path, None, found.is_looked_at());
         }
         match found {
@@ -454,7 +362,14 @@ impl<F: OpenFile + AsRawFd + Drop> Parents<F> {
         let front = here.front();
         let place = Place { path, front };
         let seen = self.seen.as_str();
-        is_in_place(self.alloc, system, &self.known, place, seen, self.has_names)
+        is_in_place(
+            self.alloc,
+            system,
+            self.dirs.known(),
+            place,
+            seen,
+            self.has_names,
+        )
     }
 
     // Keeps that the directory at a path was seen to be in its place.
@@ -470,12 +385,12 @@ impl<F: OpenFile + AsRawFd + Drop> Parents<F> {
     /// Opens the directory at a path, so that its names are read. A known directory that is not private must be the known one, and be in its
     /// place. If a link has taken its place, that is an error also where the link leads nowhere.
     pub fn open_dir<R: Files<File = F>>(&mut self, system: &R, path: &Path) -> io::Result<R::Dir> {
-        if self.is_private(plain(path)) {
+        if self.dirs.is_private(plain(path)) {
             let (above, name) = around(path);
             let is_alone = self.working.is_at(above);
             return system.open_dir(if is_alone { name } else { path.text() });
         }
-        match self.find(plain(path)) {
+        match self.dirs.find(plain(path)) {
             Found::Is(due) => match self.known_dir(system, path, due) {
                 Err(e) if is_absent(e.kind()) && is_link(system, path) => Err(another()),
                 told => told,

@@ -1,6 +1,6 @@
-use Rattle.real_disk.proofs.Prelude.{◌∙◌, sym, arith, rules}
-use Rattle.real_disk.proofs.Ascending.{first_name, next_name, less_from_lower}
-use Rattle.real_disk.proofs.names.ascends.Goals as goal
+use Rattle.disk_calls.proofs.Prelude.{◌∙◌, sym, arith, rules}
+use Rattle.disk_calls.proofs.Ascending.{first_name, next_name, less_from_lower}
+use Rattle.disk_calls.proofs.names.ascends.Goals as goal
 
 pub returns-then-len-eq0 : goal.returns-then-len-eq0
 returns-then-len-eq0 c = λ t s. first_name _ _ (search rules)
