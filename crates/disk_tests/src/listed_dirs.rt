@@ -2,13 +2,13 @@
 //! reading of names, or while a directory is opened for that. Every user may write in the directories.
 use crate::rooms::{Node, Room};
 use crate::shared::{joined, same, so};
-use crate::swapping::{Moment, Swapping};
+use crate::swapping::{Moment, Swapping, Swaps};
 use crate::swaps::{are_listed, exposed_room, room_with_modes};
 use outside::{ListError, Tree};
 use real_disk::RealReader;
 use std::process::Abort;
 use std::{fs, io};
-use whole_disk::{DiskOver, WholeDisk};
+use whole_disk::{DiskOver, Hooked, WholeDisk};
 
 /// The names in the directory that is looked at.
 const OWN: &str = "empty file link ";
@@ -80,14 +80,14 @@ fn lists_after(
 
 // A system in which nothing takes the place of a directory.
 fn still(host: HostRuntime, has_names: bool) -> Swapping<'static> {
-    Swapping {
-        host,
+    let hook = Swaps {
         moment: Moment::Never,
         own: "",
         aside: "",
         out: "",
         has_names,
-    }
+    };
+    Hooked { host, hook }
 }
 
 // How many faults a list with this answer counts.
@@ -256,15 +256,14 @@ fn lists_swapped(
     let own = room.at("top/a").expect(rt, "a path");
     let aside = room.at("top/aside").expect(rt, "a path");
     let out = room.at("out").expect(rt, "a path");
-    let system = Swapping {
-        host,
+    let hook = Swaps {
         moment: Moment::Listed,
         own: own.text(),
         aside: aside.text(),
         out: out.text(),
         has_names,
     };
-    lists_open(rt, &room, system, want);
+    lists_open(rt, &room, Hooked { host, hook }, want);
     room.remove().expect(rt, "an empty room");
 }
 

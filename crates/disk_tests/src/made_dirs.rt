@@ -2,13 +2,13 @@
 //! Every user may write in the directory over it.
 use crate::rooms::{Node, Room};
 use crate::shared::{same, so};
-use crate::swapping::{Moment, Swapping};
+use crate::swapping::{Moment, Swapping, Swaps};
 use crate::swaps::{are_listed_by, exposed_room, is_as_before};
 use outside::WriteError;
 use path_text::Path;
 use std::fs;
 use std::process::Abort;
-use whole_disk::{Act, DiskOver};
+use whole_disk::{Act, DiskOver, Hooked};
 
 // The files of a system in which these two directories were looked at.
 fn looked_over<'a>(
@@ -75,14 +75,14 @@ fn place_is_not_entered(
 
 // A system in which a link takes the place of each directory that is made.
 fn made_in<'a>(host: HostRuntime, aside: &'a str, out: &'a str, has_names: bool) -> Swapping<'a> {
-    Swapping {
-        host,
+    let hook = Swaps {
         moment: Moment::Made,
         own: "",
         aside,
         out,
         has_names,
-    }
+    };
+    Hooked { host, hook }
 }
 
 #[test]

@@ -1,6 +1,6 @@
 //! A rank that took over paths did not look at the directories above them. Its reader looks at them, once, to know whether the paths are
 //! in private directories.
-use crate::counting::{Counting, Counts};
+use crate::counting::{Counting, Counts, counting};
 use crate::private_dirs::is_kept;
 use crate::rooms::{Node, Room};
 use crate::shared::{same, so};
@@ -30,12 +30,7 @@ fn asked_for(
 fn the_directories_above_are_looked_at_once(rt: HostRuntime) {
     let room = room_with_modes(&rt, rt, 0o755, 0o755);
     let counts = Counts::none();
-    let system = Counting {
-        host: rt,
-        counts: &counts,
-        changes: false,
-    };
-    let mut disk = DiskOver::over(rt.alloc(), system);
+    let mut disk = DiskOver::over(rt.alloc(), counting(rt, &counts, false));
     let mut reader = disk.reader(rt.alloc()).expect(&rt, "memory");
     let first = asked_for(&rt, &counts, &mut reader, &room, "top");
     let below = asked_for(&rt, &counts, &mut reader, &room, "top/a");

@@ -1,6 +1,6 @@
 //! A run on one thread asks by names alone in its working directory. Each test compares the answers with those by whole paths, and counts
 //! the names alone.
-use crate::counting::{Counting, Counts};
+use crate::counting::{Counting, Counts, counting};
 use crate::private_dirs::is_kept;
 use crate::rooms::Room;
 use crate::shared::{same, so};
@@ -15,14 +15,6 @@ use whole_disk::{Act, DiskOver};
 // A room whose directories only the user and root can write to.
 fn private_room(rt: &impl Abort, host: HostRuntime) -> Room {
     room_with_modes(rt, host, 0o755, 0o755)
-}
-
-fn counting(host: HostRuntime, counts: &Counts) -> Counting<'_> {
-    Counting {
-        host,
-        counts,
-        changes: true,
-    }
 }
 
 // The files of a system that a run has for itself, on one thread.
@@ -122,7 +114,7 @@ fn look_in_turn(rt: &impl Abort, reader: &mut RealReader<Counting<'_>>, room: &R
 fn looks_in_turn_name_the_last_name_alone(rt: HostRuntime) {
     let room = private_room(&rt, rt);
     let counts = Counts::none();
-    let mut disk = alone(counting(rt, &counts));
+    let mut disk = alone(counting(rt, &counts, true));
     let mut reader = looked(&rt, rt.alloc(), &mut disk, &room, &["top", "top/a"]);
     same(&rt, &counts.names(), &0);
     look_in_turn(&rt, &mut reader, &room);
@@ -161,7 +153,7 @@ fn list_and_read(
 fn other_calls_name_the_last_name_alone_too(rt: HostRuntime) {
     let room = private_room(&rt, rt);
     let counts = Counts::none();
-    let mut disk = alone(counting(rt, &counts));
+    let mut disk = alone(counting(rt, &counts, true));
     let mut reader = looked(&rt, rt.alloc(), &mut disk, &room, &["top", "top/a"]);
     look_often(&rt, &mut reader, &room, 2);
     let before = counts.names();
@@ -199,7 +191,7 @@ fn has_acted(rt: &impl Abort, host: HostRuntime, room: &Room) {
 fn acts_in_turn_name_the_last_name_alone(rt: HostRuntime) {
     let room = private_room(&rt, rt);
     let counts = Counts::none();
-    let mut disk = alone(counting(rt, &counts));
+    let mut disk = alone(counting(rt, &counts, true));
     look_at(&rt, rt.alloc(), &mut disk, &room);
     act_in_turn(&rt, &mut disk, &room);
     has_acted(&rt, rt, &room);
@@ -231,7 +223,7 @@ fn names_whole_paths(
 ) {
     let room = room_with_modes(rt, host, modes.0, modes.1);
     let counts = Counts::none();
-    let mut disk = alone(counting(host, &counts));
+    let mut disk = alone(counting(host, &counts, true));
     let mut reader = looked(rt, host.alloc(), &mut disk, &room, looks);
     look_often(rt, &mut reader, &room, 4);
     disk.take_reader(reader);
@@ -260,7 +252,7 @@ fn only_private_directories_become_the_working_directory(rt: HostRuntime) {
 fn a_directory_that_becomes_exposed_is_left(rt: HostRuntime) {
     let room = private_room(&rt, rt);
     let counts = Counts::none();
-    let mut disk = alone(counting(rt, &counts));
+    let mut disk = alone(counting(rt, &counts, true));
     let mut reader = looked(&rt, rt.alloc(), &mut disk, &room, &["top", "top/a"]);
     make_and_remove(&rt, &mut disk, &room, 1);
     look_often(&rt, &mut reader, &room, 4);
@@ -296,7 +288,7 @@ fn leave_with_reader(
 fn the_files_leave_a_directory_that_a_reader_saw_exposed(rt: HostRuntime) {
     let room = private_room(&rt, rt);
     let counts = Counts::none();
-    let mut disk = alone(counting(rt, &counts));
+    let mut disk = alone(counting(rt, &counts, true));
     look_at(&rt, rt.alloc(), &mut disk, &room);
     leave_with_reader(&rt, &mut disk, &room, &counts);
     room.remove().expect(&rt, "an empty room");
@@ -307,7 +299,7 @@ fn the_files_leave_a_directory_that_a_reader_saw_exposed(rt: HostRuntime) {
 fn calls_that_alternate_do_not_change_it_each_time(rt: HostRuntime) {
     let room = private_room(&rt, rt);
     let counts = Counts::none();
-    let mut disk = alone(counting(rt, &counts));
+    let mut disk = alone(counting(rt, &counts, true));
     alternate(&rt, rt.alloc(), &mut disk, &room);
     let due = if_kept(&rt, rt, &room, 1, 0);
     same(&rt, &counts.changes(), &due);
@@ -342,11 +334,7 @@ fn look_at_two(
 fn asks_in_vain(rt: &(impl Abort + AllocGlobal), host: HostRuntime, is_alone: bool) {
     let room = private_room(rt, host);
     let counts = Counts::none();
-    let system = Counting {
-        host,
-        counts: &counts,
-        changes: !is_alone,
-    };
+    let system = counting(host, &counts, !is_alone);
     let mut disk = files_of(system, is_alone);
     let mut reader = looked(rt, host.alloc(), &mut disk, &room, &["top", "top/a"]);
     look_often(rt, &mut reader, &room, 4);
