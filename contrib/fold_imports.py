@@ -1,40 +1,52 @@
 #!/usr/bin/env python3
-"""Gives each crate with four proof files or more one `proofs/Prelude.antt`, which passes on every name that its proofs cite from elsewhere.
+"""Gives crates one file that passes on every name that their files cite from elsewhere.
 
 usage: fold_imports.py [CRATE...]
 
-Without names it goes through all crates. Run it at the top of the repository after new imports, then `rt fmt` in each crate that changed.
-A second run changes nothing. Some imports stay in their file: those of the crate's own proofs, those under another name (`as`), those that
-a line `unfolding` names, and those whose name most files of the crate take from another module.
+A crate with four proof files or more gets `proofs/Prelude.antt` for its proofs. A room, and `mfu_top`, gets `specs/Prelude.antt` for the contracts
+in its sources. Without names the script goes through all crates. Run it at the top of the repository after new imports, then `rt fmt` in each crate
+that changed. A second run changes nothing. Some imports stay in their file: those of the crate's own proofs, or of its own `specs/` in a source,
+those under another name (`as`), those that a line `unfolding` names, and those whose name most files of the crate take from another module.
 """
 import collections
 import os
 import re
 import sys
 
-USE = re.compile(r"^(pub )?use ([^\s{]+?)\.\{(.*)\}$")
+USE = re.compile(r"^(pub |ghost )?use ([^\s{]+?)\.\{(.*)\};?$")
 WIDTH = 160
-HEAD = "-- The names from elsewhere that the proofs of this crate cite, passed on from one place. Declares nothing."
+HEAD = "-- The names from elsewhere that the %s of this crate cite, passed on from one place. Declares nothing."
+# The rooms take the usual names from here.
+SHARED = "Rattle.run_report.specs.Prelude"
 
 
 def crate_order():
-    names = []
+    """The place of each crate in crates.txt, and the crates whose contracts get a prelude."""
+    names, rooms, section = [], {"mfu_top"}, ""
     with open("crates.txt", encoding="utf8") as file:
         for line in file:
+            if line.startswith("#"):
+                section = line[1:].strip()
             line = line.split("#")[0].strip()
             if line:
                 names.append(line.split(":")[0].split()[0])
-    return {name: place for place, name in enumerate(names)}
+                if section == "rooms":
+                    rooms.add(names[-1])
+    return {name: place for place, name in enumerate(names)}, rooms
 
 
-def proof_files(crate):
+def files_of(crate, kind):
+    """The files of a crate that take names from the prelude of `kind`."""
+    top = os.path.join("crates", crate, "proofs" if kind == "proofs" else "src")
     found = []
-    for folder, _, names in os.walk(os.path.join("crates", crate, "proofs")):
+    for folder, _, names in os.walk(top):
         for name in names:
-            whole = os.path.join(folder, name)
-            at_top = os.path.basename(folder) == "proofs"
-            if name.endswith(".antt") and name != "Goals.antt" and not (at_top and name in ("Lib.antt", "Prelude.antt")):
-                found.append(whole)
+            if kind == "specs":
+                fits = name.endswith(".rt")
+            else:
+                fits = name.endswith(".antt") and name != "Goals.antt" and not (folder == top and name in ("Lib.antt", "Prelude.antt"))
+            if fits:
+                found.append(os.path.join(folder, name))
     return sorted(found)
 
 
@@ -54,13 +66,13 @@ def write(path, lines):
 
 def rows(start, module, names):
     """Import lines of `names`, none longer than WIDTH."""
-    lines, row = [], []
+    lines, row, end = [], [], ";" if start == "ghost use" else ""
     for name in names:
-        if row and len(f"{start} {module}.{{{', '.join(row + [name])}}}") > WIDTH:
-            lines.append(f"{start} {module}.{{{', '.join(row)}}}")
+        if row and len(f"{start} {module}.{{{', '.join(row + [name])}}}{end}") > WIDTH:
+            lines.append(f"{start} {module}.{{{', '.join(row)}}}{end}")
             row = []
         row.append(name)
-    lines.append(f"{start} {module}.{{{', '.join(row)}}}")
+    lines.append(f"{start} {module}.{{{', '.join(row)}}}{end}")
     return lines
 
 
@@ -80,13 +92,21 @@ def passed_on(path):
     return names
 
 
-def imports(lines, own, prelude, known):
+def origin(module, name):
+    """The module from which `name` comes, where `module` may be a prelude that passes it on."""
+    while module.endswith(".specs.Prelude") and not module.startswith("Rattle.std."):
+        module = passed_on(f"crates/{module.split('.')[1]}/specs/Prelude.antt").get(name, "")
+    return module
+
+
+def imports(lines, start, own, prelude, known):
     """The names that a file takes from elsewhere and that a prelude may pass on, each with its module, and the other lines."""
     unfolded = {word for line in lines if line.strip().startswith("unfold") for word in line.split()[1:]}
     taken, left = {}, []
     for line in lines:
         match = USE.match(line)
-        if not match or match.group(1) or (match.group(2).startswith(own) and match.group(2) != prelude):
+        skipped = not match or not line.startswith(start)
+        if skipped or (match.group(2).startswith(own) and match.group(2) != prelude):
             left.append(line)
             continue
         stay = []
@@ -97,21 +117,23 @@ def imports(lines, own, prelude, known):
             else:
                 taken[name] = module
         for module in dict.fromkeys(module for module, _ in stay):
-            left.extend(rows("use", module, [name for where, name in stay if where == module]))
+            left.extend(rows(start, module, [name for where, name in stay if where == module]))
     return taken, left
 
 
-def fold(crate, order):
-    files = proof_files(crate)
-    if len(files) < 4:
-        return 0
-    own, prelude = f"Rattle.{crate}.proofs.", f"Rattle.{crate}.proofs.Prelude"
-    target = os.path.join("crates", crate, "proofs", "Prelude.antt")
+def fold(crate, order, kind):
+    files = files_of(crate, kind)
+    start = "use" if kind == "proofs" else "ghost use"
+    own, prelude = f"Rattle.{crate}.{kind}.", f"Rattle.{crate}.{kind}.Prelude"
+    target = os.path.join("crates", crate, kind, "Prelude.antt")
     known = passed_on(target)
+    shared = {name: origin(SHARED, name) for name in passed_on("crates/run_report/specs/Prelude.antt")} if kind == "specs" else {}
     taken, rest, counts = {}, {}, collections.defaultdict(collections.Counter)
     for path in files:
-        taken[path], rest[path] = imports(read(path), own, prelude, known)
+        taken[path], rest[path] = imports(read(path), start, own, prelude, known)
         for name, module in taken[path].items():
+            if name in shared and origin(module, name) == shared[name]:
+                taken[path][name] = module = SHARED
             counts[name][module] += 1
     home = {name: max(modules.items(), key=lambda pair: (pair[1], pair[0]))[0] for name, modules in counts.items()}
     changed = 0
@@ -121,11 +143,11 @@ def fold(crate, order):
         for name, module in taken[path].items():
             if home[name] != module:
                 direct[module].append(name)
-        heads = rows("use", prelude, cited) if cited else []
+        heads = rows(start, prelude, cited) if cited else []
         for module, names in direct.items():
-            heads.extend(rows("use", module, names))
+            heads.extend(rows(start, module, names))
         lines = rest[path]
-        place = next((number for number, line in enumerate(lines) if not line.startswith("--")), len(lines))
+        place = next((number for number, line in enumerate(lines) if not line.startswith(("--", "//!"))), len(lines))
         changed += write(path, lines[:place] + heads + lines[place:])
 
     def rank(module):
@@ -133,22 +155,26 @@ def fold(crate, order):
         library = parts[1] if len(parts) > 1 else ""
         return (0 if library not in order else 1, order.get(library, 0), module)
 
-    lines = [HEAD]
+    lines = [HEAD % ("proofs" if kind == "proofs" else "contracts")]
     for module in sorted(set(home.values()), key=rank):
         lines.extend(rows("pub use", module, sorted(name for name in home if home[name] == module)))
     changed += write(target, lines + [""])
-    library = os.path.join("crates", crate, "proofs", "Lib.antt")
+    library = os.path.join("crates", crate, kind, "Lib.antt")
     entries = read(library)
     if "mod Prelude" not in entries and "pub mod Prelude" not in entries:
-        write(library, ["mod Prelude"] + entries)
+        write(library, ["mod Prelude"] + entries if kind == "proofs" else entries[:-1] + ["pub mod Prelude", ""])
         changed += 1
     return changed
 
 
 def main():
-    order = crate_order()
+    order, rooms = crate_order()
     for crate in sys.argv[1:] or order:
-        changed = fold(crate, order)
+        changed = 0
+        if len(files_of(crate, "proofs")) >= 4:
+            changed += fold(crate, order, "proofs")
+        if crate in rooms:
+            changed += fold(crate, order, "specs")
         if changed:
             print(f"{crate}: {changed} files")
 

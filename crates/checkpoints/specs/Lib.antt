@@ -5,3 +5,4 @@ pub mod Kept
 pub mod Stopping
 pub mod Laws
 pub mod PrivateRemoval
+pub mod Prelude

@@ -1,10 +1,6 @@
 //! The done entries, gone over beside left strings in path order.
-ghost use Rattle.std.specs.Prelude.{◌≡◌, ◌++◌, ◌+◌, ◌<◌, [], length, OnOk, IfOk, Some, None};
-ghost use Rattle.std.specs.List.{list_any};
-ghost use Rattle.std.specs.List.Sorted.{IsStrictlySortedBy};
-ghost use Rattle.std.specs.Option.{option_copied};
-ghost use Rattle.std.specs.Ordering.{is_lt};
-ghost use Rattle.run_report.specs.Prelude.{path_cmp, is_of, paths};
+ghost use Rattle.checkpoints.specs.Prelude.{◌≡◌, ◌++◌, ◌+◌, ◌<◌, [], length, OnOk, IfOk, Some, None, list_any, IsStrictlySortedBy, option_copied, is_lt};
+ghost use Rattle.checkpoints.specs.Prelude.{path_cmp, is_of, paths};
 ghost use Rattle.outside.specs.declared.trees.Kind.TheVariants as kind;
 ghost use Rattle.checkpoints.specs.Placing.{is_open, clashes};
 ghost use Rattle.checkpoints.specs.Passing.{covered, closed_with, first_of, moved, ArePassed, StartsBehind, starts_in};

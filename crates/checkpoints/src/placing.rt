@@ -1,9 +1,6 @@
 //! The left strings that are misplaced.
-ghost use Rattle.std.specs.Prelude.{◌≡◌, ◌≤◌, ◌<◌, ◌+◌, ◌++◌, ◌||◌, List, length, map, drop, IfOk, IfSome, OnOk, Some, None};
-ghost use Rattle.std.specs.List.{flat_map, enumerate_from};
-ghost use Rattle.std.specs.List.Sorted.{IsPermutation, IsSorted, IsSortedByKey, IsStrictlySortedBy};
-ghost use Rattle.std.specs.Option.{option_copied};
-ghost use Rattle.run_report.specs.Prelude.{path_cmp, paths};
+ghost use Rattle.checkpoints.specs.Prelude.{◌≡◌, ◌≤◌, ◌<◌, ◌+◌, ◌++◌, ◌||◌, List, length, map, drop, IfOk, IfSome, OnOk, Some, None, flat_map, enumerate_from};
+ghost use Rattle.checkpoints.specs.Prelude.{IsPermutation, IsSorted, IsSortedByKey, IsStrictlySortedBy, option_copied, path_cmp, paths};
 ghost use Rattle.checkpoints.specs.Placing.{is_misplaced, ArePlaced, IsFirstMisplaced};
 ghost use Rattle.checkpoints.specs.Passing.{covered, top_with, starts_at, paths_in, lower_of, lowest_with, IsLowest, IsPlace};
 ghost use Rattle.checkpoints.specs.Lefts.{numbered};

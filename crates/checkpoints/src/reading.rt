@@ -1,11 +1,7 @@
 //! A checkpoint, read.
-ghost use Rattle.std.specs.Prelude.{◌≡◌, ◌⊎◌, ◌+◌, ◌<◌, All, length, map, slice_index, IfOk, IfErr, IfSome, OnOk, true};
-ghost use Rattle.std.specs.List.{flat_map};
-ghost use Rattle.std.specs.List.Sorted.{IsStrictlySortedBy};
-ghost use Rattle.run_report.specs.Prelude.{path_cmp, RoseBy, is_shaped, paths, side_of};
-ghost use Rattle.circle_lists.specs.Spelling.{IsRank};
+ghost use Rattle.checkpoints.specs.Prelude.{◌≡◌, ◌⊎◌, ◌+◌, ◌<◌, All, length, map, slice_index, IfOk, IfErr, IfSome, OnOk, true, flat_map, IsStrictlySortedBy};
+ghost use Rattle.checkpoints.specs.Prelude.{path_cmp, RoseBy, is_shaped, paths, side_of, IsRank, AllFit, HoldLists};
 ghost use Rattle.circle_lists.specs.Checkpoint as ranks;
-ghost use Rattle.circle_lists.specs.Checkpoint.{AllFit, HoldLists};
 ghost use Rattle.checkpoints.specs.Placing.{ArePlaced};
 ghost use Rattle.checkpoints.specs.Kept.{IsCheckpoint};
 ghost use Rattle.checkpoints.specs.Stopping.{TellsMisplaced, StopsReading};

@@ -1,9 +1,6 @@
 //! A checkpoint, written.
-ghost use Rattle.std.specs.Prelude.{◌≡◌, ◌≤◌, ◌⊎◌, All, length, map, IfErr, IfSome, OnErr, OnOk, is_some, true, false};
-ghost use Rattle.std.specs.List.Sorted.{IsStrictlySortedBy};
-ghost use Rattle.run_report.specs.Prelude.{path_cmp, RoseBy, is_root, nothing_lent, SameBut, is_shaped, paths, side_of};
-ghost use Rattle.circle_lists.specs.Checkpoint.{AllFit};
-ghost use Rattle.run_entries.specs.Saving.{SameButAll};
+ghost use Rattle.checkpoints.specs.Prelude.{◌≡◌, ◌≤◌, ◌⊎◌, All, length, map, IfErr, IfSome, OnErr, OnOk, is_some, true, false, IsStrictlySortedBy, path_cmp};
+ghost use Rattle.checkpoints.specs.Prelude.{RoseBy, is_root, nothing_lent, SameBut, is_shaped, paths, side_of, AllFit, SameButAll};
 ghost use Rattle.checkpoints.specs.Kept.{list_path, checkpoint_paths, IsKept, HoldsNewest};
 ghost use Rattle.checkpoints.specs.Stopping.{IsCleared, IsGone, IsTorn, StopsWriting};
 ghost use Rattle.checkpoints.specs.PrivateRemoval.{IsMeant};

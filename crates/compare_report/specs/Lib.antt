@@ -3,3 +3,4 @@ pub mod Laws
 pub mod Outputs
 pub mod PrivatePicks
 pub mod PrivateSteps
+pub mod Prelude

@@ -1,6 +1,5 @@
 //! The notes of a comparison.
-ghost use Rattle.std.specs.Prelude.{◌≡◌, ◌++◌, OnOk, IfOk};
-ghost use Rattle.tool_text.specs.NoteOrder.{AreInOrder};
+ghost use Rattle.compare_report.specs.Prelude.{◌≡◌, ◌++◌, OnOk, IfOk, AreInOrder};
 ghost use Rattle.compare_report.specs.Comparing.{missed_notes, compare_failures};
 
 use path_text::OutOfMemory;

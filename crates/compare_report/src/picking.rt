@@ -1,10 +1,6 @@
 //! The entries of a list at some paths.
-ghost use Rattle.std.specs.Prelude.{◌≡◌, ◌++◌, ◌∷◌, ◌&&◌, [], not, if◌then◌else◌, OnOk, IfOk, filter, nat_eq};
-ghost use Rattle.std.specs.Cmp.Lexicographic.{pointwise};
-ghost use Rattle.std.specs.List.{list_any};
-ghost use Rattle.std.specs.List.Sorted.{IsStrictlySortedBy};
-ghost use Rattle.run_report.specs.Prelude.{path_cmp, paths};
-ghost use Rattle.tree_cmp.specs.Sides.{side, IsSide};
+ghost use Rattle.compare_report.specs.Prelude.{◌≡◌, ◌++◌, ◌∷◌, ◌&&◌, [], not, if◌then◌else◌, OnOk, IfOk, filter, nat_eq, pointwise, list_any};
+ghost use Rattle.compare_report.specs.Prelude.{IsStrictlySortedBy, path_cmp, paths, side, IsSide};
 ghost use Rattle.compare_report.specs.Outputs.{picks, IsJoined};
 ghost use Rattle.compare_report.specs.PrivatePicks.{picks_but, IsPassed};
 

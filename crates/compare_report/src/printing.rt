@@ -1,7 +1,5 @@
 //! The texts of a comparison.
-ghost use Rattle.std.specs.Prelude.{◌≡◌, length, IfOk};
-ghost use Rattle.tool_text.specs.Notes.{note_lines};
-ghost use Rattle.tool_text.specs.Rows.{rows_text};
+ghost use Rattle.compare_report.specs.Prelude.{◌≡◌, length, IfOk, note_lines, rows_text};
 
 use path_text::OutOfMemory;
 use run_report::Report;

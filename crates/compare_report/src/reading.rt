@@ -1,9 +1,5 @@
 //! The comparison of two sides.
-ghost use Rattle.std.specs.Prelude.{◌≡◌, ◌≤◌, length, IfOk};
-ghost use Rattle.outside.specs.Count.{RoseBy};
-ghost use Rattle.tree_cmp.specs.Rows.{IsComparison};
-ghost use Rattle.tree_cmp.specs.Sides.{side};
-ghost use Rattle.run_entries.specs.Both.{AreSides};
+ghost use Rattle.compare_report.specs.Prelude.{◌≡◌, ◌≤◌, length, IfOk, RoseBy, IsComparison, side, AreSides};
 
 use outside::Ground;
 use path_text::OutOfMemory;

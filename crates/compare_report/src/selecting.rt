@@ -1,9 +1,6 @@
 //! The lists that are saved of a comparison.
-ghost use Rattle.std.specs.Prelude.{◌≡◌, ◌++◌, ◌∷◌, [], not, if◌then◌else◌, map, All, OnOk, IfOk, true};
-ghost use Rattle.std.specs.List.Sorted.{IsStrictlySortedBy};
-ghost use Rattle.run_report.specs.Prelude.{path_cmp, is_shaped, paths};
-ghost use Rattle.tree_cmp.specs.Expressions.{only_dest};
-ghost use Rattle.tree_cmp.specs.Sides.{side, IsSide};
+ghost use Rattle.compare_report.specs.Prelude.{◌≡◌, ◌++◌, ◌∷◌, [], not, if◌then◌else◌, map, All, OnOk, IfOk, true, IsStrictlySortedBy, path_cmp, is_shaped};
+ghost use Rattle.compare_report.specs.Prelude.{paths, only_dest, side, IsSide};
 ghost use Rattle.compare_report.specs.Outputs.{is_given, given_paths, IsSelected, AreOutputs};
 
 use crate::picking::joined;

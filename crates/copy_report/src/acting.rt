@@ -1,9 +1,6 @@
 //! The copy of the entries of the walk, and its texts.
-ghost use Rattle.std.specs.Prelude.{◌≡◌, ◌≤◌, IfOk, IfSome, is_some};
-ghost use Rattle.std.specs.List.{count_by};
-ghost use Rattle.run_report.specs.Prelude.{RoseBy, nothing_lent, CommonWithin, side_of};
-ghost use Rattle.level_work.specs.Counts.{is_done};
-ghost use Rattle.tree_copy.specs.Copying.{CanCopy, FitsTree, SameButTargets, bytes_copied};
+ghost use Rattle.copy_report.specs.Prelude.{◌≡◌, ◌≤◌, IfOk, IfSome, is_some, count_by, RoseBy, nothing_lent, CommonWithin, side_of, is_done, CanCopy, FitsTree};
+ghost use Rattle.copy_report.specs.Prelude.{SameButTargets, bytes_copied};
 ghost use Rattle.copy_report.specs.Copying.{Copies};
 ghost use Rattle.copy_report.specs.PrivateSteps.{TellsCopies};
 

@@ -1,7 +1,5 @@
 //! The work of dcp.
-ghost use Rattle.std.specs.Prelude.{◌≡◌, [], Ok, IfOk, IfErr};
-ghost use Rattle.run_report.specs.Prelude.{RoseBy, nothing_lent, side_of};
-ghost use Rattle.tool_words.specs.Limits.{WithinCopy};
+ghost use Rattle.copy_report.specs.Prelude.{◌≡◌, [], Ok, IfOk, IfErr, RoseBy, nothing_lent, side_of, WithinCopy};
 ghost use Rattle.copy_report.specs.Copying.{copy_asked, ReportsCopy, StopsCopy, LeavesCopy};
 
 use crate::acting::copy_and_tell;

@@ -1,6 +1,5 @@
 //! The notes of a copy.
-ghost use Rattle.std.specs.Prelude.{IfOk};
-ghost use Rattle.tool_text.specs.NoteOrder.{AreInOrder};
+ghost use Rattle.copy_report.specs.Prelude.{IfOk, AreInOrder};
 ghost use Rattle.copy_report.specs.Copying.{copy_failures};
 
 use flat_list::FlatList;

@@ -1,7 +1,5 @@
 //! The look at the destination.
-ghost use Rattle.std.specs.Prelude.{◌≡◌, ◌≤◌, All, length, Ok, IfOk, IfErr};
-ghost use Rattle.run_report.specs.Prelude.{RoseBy, side_of};
-ghost use Rattle.tree_copy.specs.Placing.{IsPair};
+ghost use Rattle.copy_report.specs.Prelude.{◌≡◌, ◌≤◌, All, length, Ok, IfOk, IfErr, RoseBy, side_of, IsPair};
 ghost use Rattle.copy_report.specs.Placing.{Places};
 ghost use Rattle.copy_report.specs.PrivateSteps.{ArePlaced, StopsPlacing};
 

@@ -1,6 +1,5 @@
 //! The texts of a copy.
-ghost use Rattle.std.specs.Prelude.{◌≡◌, ◌∷◌, [], false, length, IfOk};
-ghost use Rattle.tool_text.specs.Notes.{note_lines};
+ghost use Rattle.copy_report.specs.Prelude.{◌≡◌, ◌∷◌, [], false, length, IfOk, note_lines};
 ghost use Rattle.copy_report.specs.Copying.{copied_line};
 
 use level_work::Fate;

@@ -1,10 +1,6 @@
 //! The walk of the sources.
-ghost use Rattle.std.specs.Prelude.{◌≡◌, ◌≤◌, length, IfOk, IfErr, IfSome};
-ghost use Rattle.run_report.specs.Prelude.{RoseBy, max_entries, CommonWithin, side_of};
-ghost use Rattle.tree_copy.specs.Copying.{CanCopy, FitsTree};
-ghost use Rattle.tool_words.specs.Asked.{roots};
-ghost use Rattle.run_entries.specs.Entries.{Walked};
-ghost use Rattle.run_entries.specs.Stopping.{StopsListing};
+ghost use Rattle.copy_report.specs.Prelude.{◌≡◌, ◌≤◌, length, IfOk, IfErr, IfSome, RoseBy, max_entries, CommonWithin, side_of, CanCopy, FitsTree, roots};
+ghost use Rattle.copy_report.specs.Prelude.{Walked, StopsListing};
 ghost use Rattle.copy_report.specs.PrivateSteps.{ArePlaced};
 
 use flat_list::FlatList;

@@ -1,2 +1,3 @@
 pub mod Grouping
 pub mod Laws
+pub mod Prelude

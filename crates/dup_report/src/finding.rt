@@ -1,12 +1,6 @@
 //! The walk, and the groups of the files that it lists.
-ghost use Rattle.std.specs.Prelude.{◌≡◌, ◌≤◌, length, IfOk, IfErr, IfSome};
-ghost use Rattle.std.specs.List.Sorted.{IsStrictlySortedBy};
-ghost use Rattle.run_report.specs.Prelude.{path_cmp, RoseBy, paths, max_entries, CommonWithin, side_of};
-ghost use Rattle.tree_cmp.specs.Readers.{StatsTold};
-ghost use Rattle.tree_dup.specs.Grouping.{IsGrouping};
-ghost use Rattle.tool_words.specs.Asked.{roots};
-ghost use Rattle.run_entries.specs.Entries.{Walked};
-ghost use Rattle.run_entries.specs.Stopping.{StopsListing};
+ghost use Rattle.dup_report.specs.Prelude.{◌≡◌, ◌≤◌, length, IfOk, IfErr, IfSome, IsStrictlySortedBy, path_cmp, RoseBy, paths, max_entries, CommonWithin};
+ghost use Rattle.dup_report.specs.Prelude.{side_of, StatsTold, IsGrouping, roots, Walked, StopsListing};
 
 use flat_list::FlatList;
 use outside::Ground;

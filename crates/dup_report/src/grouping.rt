@@ -1,7 +1,5 @@
 //! The work of ddup.
-ghost use Rattle.std.specs.Prelude.{◌≡◌, IfOk, IfErr};
-ghost use Rattle.run_report.specs.Prelude.{RoseBy, side_of};
-ghost use Rattle.tool_words.specs.Limits.{WithinDup};
+ghost use Rattle.dup_report.specs.Prelude.{◌≡◌, IfOk, IfErr, RoseBy, side_of, WithinDup};
 ghost use Rattle.dup_report.specs.Grouping.{dup_asked, ReportsDup, StopsDup, LeavesDup};
 
 use crate::finding::{group_listed, walk_listed};

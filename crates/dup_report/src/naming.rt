@@ -1,6 +1,5 @@
 //! The notes of the files that were to be grouped.
-ghost use Rattle.std.specs.Prelude.{◌≡◌, ◌++◌, OnOk, IfOk};
-ghost use Rattle.tool_text.specs.NoteOrder.{AreInOrder};
+ghost use Rattle.dup_report.specs.Prelude.{◌≡◌, ◌++◌, OnOk, IfOk, AreInOrder};
 ghost use Rattle.dup_report.specs.Grouping.{path_notes, dup_failures};
 
 use flat_list::FlatList;

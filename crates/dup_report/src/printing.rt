@@ -1,8 +1,5 @@
 //! The texts of groups.
-ghost use Rattle.std.specs.Prelude.{◌≡◌, ◌<◌, ◌^◌, length, IfOk};
-ghost use Rattle.std.specs.List.{sum_by};
-ghost use Rattle.tool_text.specs.Groups.{file_count, groups_text};
-ghost use Rattle.tool_text.specs.Notes.{note_lines};
+ghost use Rattle.dup_report.specs.Prelude.{◌≡◌, ◌<◌, ◌^◌, length, IfOk, sum_by, file_count, groups_text, note_lines};
 
 use path_text::OutOfMemory;
 use run_report::Report;

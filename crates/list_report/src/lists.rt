@@ -1,6 +1,5 @@
 //! The work of dwalk and dfind.
-ghost use Rattle.std.specs.Prelude.{◌≡◌, [], IfOk, IfErr};
-ghost use Rattle.run_report.specs.Prelude.{RoseBy, nothing_lent, CommonWithin, side_of};
+ghost use Rattle.list_report.specs.Prelude.{◌≡◌, [], IfOk, IfErr, RoseBy, nothing_lent, CommonWithin, side_of};
 ghost use Rattle.list_report.specs.Lists.{list_asked, ReportsList, StopsList, LeavesList};
 
 use crate::printing::list_report;

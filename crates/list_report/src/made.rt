@@ -1,6 +1,5 @@
 //! The work of dtest.
-ghost use Rattle.std.specs.Prelude.{◌≡◌, ◌≤◌, ◌∷◌, [], IfOk, IfErr};
-ghost use Rattle.tool_words.specs.Limits.{CommonWithin};
+ghost use Rattle.list_report.specs.Prelude.{◌≡◌, ◌≤◌, ◌∷◌, [], IfOk, IfErr, CommonWithin};
 ghost use Rattle.list_report.specs.Tests.{test_asked, made_root, ReportsTest, StopsTest};
 
 use crate::laws::made_walk_is_fine;

@@ -1,8 +1,5 @@
 //! The texts of the entries found.
-ghost use Rattle.std.specs.Prelude.{◌≡◌, ◌++◌, List, length, IfOk};
-ghost use Rattle.run_report.specs.Prelude.{Entry, summary_of};
-ghost use Rattle.tool_text.specs.Lines.{lines_of};
-ghost use Rattle.run_entries.specs.Entries.{InOrder, notes_text};
+ghost use Rattle.list_report.specs.Prelude.{◌≡◌, ◌++◌, List, length, IfOk, Entry, summary_of, lines_of, InOrder, notes_text};
 ghost use Rattle.list_report.specs.Lists.{summary_text};
 
 use flat_list::{Field, Summary};

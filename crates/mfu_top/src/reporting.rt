@@ -1,8 +1,5 @@
 //! The work of each tool, up to the texts, a line a tool.
-ghost use Rattle.std.specs.Prelude.{◌≡◌, [], IfOk, IfErr, true};
-ghost use Rattle.run_report.specs.Prelude.{RoseBy, nothing_lent, side_of};
-ghost use Rattle.tool_words.specs.Asked.{asked_by};
-ghost use Rattle.tool_words.specs.Limits.{Within};
+ghost use Rattle.mfu_top.specs.Prelude.{◌≡◌, [], IfOk, IfErr, true, RoseBy, nothing_lent, side_of, asked_by, Within};
 ghost use Rattle.mfu_top.specs.Run.{Reports, Stops, Leaves, is_apart};
 
 use crate::walks::{report_of_walk, walk_task};

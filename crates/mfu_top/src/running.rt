@@ -1,18 +1,7 @@
 //! The run.
-ghost use Rattle.std.specs.Prelude.{◌≡◌, ◌⊎◌, ◌<◌, [], ℕ, map, string_bytes, Ok, Err, IfOk, IfErr, IfSome, IsErr, true};
-ghost use Rattle.run_report.specs.Prelude.{RoseBy, nothing_lent, side_of};
-ghost use Rattle.outside.specs.Count.{StoodStill};
-ghost use Rattle.tool_words.specs.Asked.{asked_by};
-ghost use Rattle.tool_words.specs.Refusals.{refusal_in};
-ghost use Rattle.tool_words.specs.Words.{reading};
-ghost use Rattle.tool_words.specs.Limits.{Within};
-ghost use Rattle.run_report.specs.declared.reports.Report.{Report};
-ghost use Rattle.run_report.specs.declared.stops.Stop.{Stop};
-ghost use Rattle.run_report.specs.Ends.{Grew, GrewBySome, GrewByLine, Printed};
-ghost use Rattle.run_report.specs.Lines.{memory_line, refusal_line};
-ghost use Rattle.run_report.specs.Sides.{stream_of};
-ghost use Rattle.run_report.specs.Statuses.{has_reason};
-ghost use Rattle.run_report.specs.Stops.{status_of, stop_line};
+ghost use Rattle.mfu_top.specs.Prelude.{◌≡◌, ◌⊎◌, ◌<◌, [], ℕ, map, string_bytes, Ok, Err, IfOk, IfErr, IfSome, IsErr, true, RoseBy, nothing_lent, side_of};
+ghost use Rattle.mfu_top.specs.Prelude.{StoodStill, asked_by, refusal_in, reading, Within, Report, Stop, Grew, GrewBySome, GrewByLine, Printed, memory_line};
+ghost use Rattle.mfu_top.specs.Prelude.{refusal_line, stream_of, has_reason, status_of, stop_line};
 ghost use Rattle.mfu_top.specs.Run.{Reports, Stops, Leaves, is_apart, Fine, EndedWell};
 
 use crate::laws::fine_runs_succeed;

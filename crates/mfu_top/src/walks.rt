@@ -1,8 +1,5 @@
 //! The command of dwalk: a list, or a stage of a walk.
-ghost use Rattle.std.specs.Prelude.{◌≡◌, [], IfOk, IfErr, None};
-ghost use Rattle.run_report.specs.Prelude.{RoseBy, nothing_lent, side_of};
-ghost use Rattle.tool_words.specs.Asked.{asked_by};
-ghost use Rattle.tool_words.specs.Limits.{Within};
+ghost use Rattle.mfu_top.specs.Prelude.{◌≡◌, [], IfOk, IfErr, None, RoseBy, nothing_lent, side_of, asked_by, Within};
 ghost use Rattle.mfu_top.specs.Run.{Reports, Stops, Leaves};
 ghost use Rattle.mfu_top.specs.Walks.{asked_of};
 

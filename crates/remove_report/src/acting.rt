@@ -1,9 +1,6 @@
 //! The removal, and its texts.
-ghost use Rattle.std.specs.Prelude.{◌≡◌, ◌≤◌, [], true, IfOk, IfSome, is_some};
-ghost use Rattle.run_report.specs.Prelude.{RoseBy, nothing_lent, paths, CommonWithin, side_of};
-ghost use Rattle.std.specs.List.{count_by};
-ghost use Rattle.level_work.specs.Counts.{is_done};
-ghost use Rattle.tree_remove.specs.Removing.{SameButChosen};
+ghost use Rattle.remove_report.specs.Prelude.{◌≡◌, ◌≤◌, [], true, IfOk, IfSome, is_some, RoseBy, nothing_lent, paths, CommonWithin, side_of, count_by, is_done};
+ghost use Rattle.remove_report.specs.Prelude.{SameButChosen};
 ghost use Rattle.remove_report.specs.Choosing.{Acts};
 ghost use Rattle.remove_report.specs.PrivateActs.{CanBeRemoved, TellsRemovals};
 

@@ -1,10 +1,5 @@
 //! The choice of entries to remove.
-ghost use Rattle.std.specs.Prelude.{◌≡◌, All, IfOk, IfErr, IfSome, Some};
-ghost use Rattle.run_report.specs.Prelude.{RoseBy, CommonWithin, side_of};
-ghost use Rattle.tool_words.specs.Asked.{roots, choice_in};
-ghost use Rattle.tool_words.specs.Limits.{Lower};
-ghost use Rattle.run_entries.specs.Entries.{Finds};
-ghost use Rattle.run_entries.specs.Stopping.{StopsFinding};
+ghost use Rattle.remove_report.specs.Prelude.{◌≡◌, All, IfOk, IfErr, IfSome, Some, RoseBy, CommonWithin, side_of, roots, choice_in, Lower, Finds, StopsFinding};
 ghost use Rattle.remove_report.specs.PrivateActs.{CanBeRemoved};
 
 use outside::Ground;

@@ -1,7 +1,5 @@
 //! The notes of a removal.
-ghost use Rattle.std.specs.Prelude.{◌++◌, IfOk};
-ghost use Rattle.tool_text.specs.NoteOrder.{AreInOrder};
-ghost use Rattle.run_entries.specs.Naming.{removal_notes};
+ghost use Rattle.remove_report.specs.Prelude.{◌++◌, IfOk, AreInOrder, removal_notes};
 
 use level_work::Fate;
 use path_text::{OutOfMemory, Path};

@@ -1,7 +1,5 @@
 //! The texts of a removal.
-ghost use Rattle.std.specs.Prelude.{◌≡◌, ◌++◌, length, IfOk};
-ghost use Rattle.tool_text.specs.Lines.{lines_of};
-ghost use Rattle.tool_text.specs.Notes.{note_lines};
+ghost use Rattle.remove_report.specs.Prelude.{◌≡◌, ◌++◌, length, IfOk, lines_of, note_lines};
 ghost use Rattle.remove_report.specs.Removing.{removed_line};
 
 use flat_list::FlatList;

@@ -1,7 +1,5 @@
 //! The work of drm.
-ghost use Rattle.std.specs.Prelude.{◌≡◌, IfOk, IfErr};
-ghost use Rattle.run_report.specs.Prelude.{RoseBy, nothing_lent, side_of};
-ghost use Rattle.tool_words.specs.Limits.{WithinRemove};
+ghost use Rattle.remove_report.specs.Prelude.{◌≡◌, IfOk, IfErr, RoseBy, nothing_lent, side_of, WithinRemove};
 ghost use Rattle.remove_report.specs.Removing.{remove_asked, ReportsRemove, StopsRemove, LeavesRemove};
 
 use crate::acting::remove_and_tell;

@@ -6,3 +6,4 @@ pub mod Naming
 pub mod Saving
 pub mod Stopping
 pub mod Tells
+pub mod Prelude

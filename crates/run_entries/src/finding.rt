@@ -1,9 +1,6 @@
 //! The entries that a run finds.
-ghost use Rattle.std.specs.Prelude.{◌≡◌, All, IfOk, IfErr, Some, None, true};
-ghost use Rattle.std.specs.List.Sorted.{IsStrictlySortedBy};
-ghost use Rattle.std.specs.Option.{option_map};
-ghost use Rattle.run_report.specs.Prelude.{path_cmp, RoseBy, is_shaped, paths, CommonWithin, side_of};
-ghost use Rattle.tool_words.specs.Asked.{start_in, choice_in};
+ghost use Rattle.run_entries.specs.Prelude.{◌≡◌, All, IfOk, IfErr, Some, None, true, IsStrictlySortedBy, option_map, path_cmp, RoseBy, is_shaped, paths};
+ghost use Rattle.run_entries.specs.Prelude.{CommonWithin, side_of, start_in, choice_in};
 ghost use Rattle.run_entries.specs.Entries.{Finds};
 ghost use Rattle.run_entries.specs.Stopping.{StopsFinding};
 

@@ -1,8 +1,5 @@
 //! The notes of a run.
-ghost use Rattle.std.specs.Prelude.{◌≡◌, ◌++◌, [], OnOk, IfOk};
-ghost use Rattle.std.specs.Option.{option_to_list};
-ghost use Rattle.std.specs.List.{flat_map};
-ghost use Rattle.run_report.specs.Prelude.{summary_of, AreInOrder};
+ghost use Rattle.run_entries.specs.Prelude.{◌≡◌, ◌++◌, [], OnOk, IfOk, option_to_list, flat_map, summary_of, AreInOrder};
 ghost use Rattle.run_entries.specs.Naming.{copy_notes, copy_whys, failures_in, listing_notes, look_notes, look_whys, notes_by, removal_notes, removal_whys};
 
 use flat_list::FlatList;

@@ -1,5 +1,5 @@
 //! The order in which a list is printed.
-ghost use Rattle.std.specs.Prelude.{IfOk};
+ghost use Rattle.run_entries.specs.Prelude.{IfOk};
 ghost use Rattle.run_entries.specs.Entries.{InOrder};
 
 use flat_list::{Field, FlatList};

@@ -1,5 +1,5 @@
 //! The text of the notes.
-ghost use Rattle.std.specs.Prelude.{◌≡◌, IfOk};
+ghost use Rattle.run_entries.specs.Prelude.{◌≡◌, IfOk};
 ghost use Rattle.run_entries.specs.Entries.{notes_text};
 
 use crate::accounts::Account;

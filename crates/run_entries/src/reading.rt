@@ -1,10 +1,6 @@
 //! A list file, read.
-ghost use Rattle.std.specs.Prelude.{◌≡◌, ◌≤◌, All, length, IfOk, IfErr, IfSome, IsErrOf, true, false};
-ghost use Rattle.std.specs.FinMap.{get};
-ghost use Rattle.std.specs.List.Sorted.{IsStrictlySortedBy};
-ghost use Rattle.run_report.specs.Prelude.{path_cmp, RoseBy, is_file, is_shaped, paths, max_entries, side_of};
-ghost use Rattle.outside.specs.Whole.{HoldsFile};
-ghost use Rattle.tool_words.specs.Asked.{input};
+ghost use Rattle.run_entries.specs.Prelude.{◌≡◌, ◌≤◌, All, length, IfOk, IfErr, IfSome, IsErrOf, true, false, get, IsStrictlySortedBy, path_cmp, RoseBy};
+ghost use Rattle.run_entries.specs.Prelude.{is_file, is_shaped, paths, max_entries, side_of, HoldsFile, input};
 ghost use Rattle.run_entries.specs.Entries.{IsRead};
 ghost use Rattle.run_entries.specs.Stopping.{StopsListing};
 

@@ -1,10 +1,6 @@
 //! The entries of a run, before the choice.
-ghost use Rattle.std.specs.Prelude.{◌≡◌, ◌<◌, ◌≤◌, List, All, length, IfOk, IfErr, true};
-ghost use Rattle.std.specs.List.Sorted.{IsStrictlySortedBy};
-ghost use Rattle.run_report.specs.Prelude.{path_cmp, RoseBy, is_shaped, paths, max_entries, CommonWithin, side_of};
-ghost use Rattle.tool_words.specs.Asked.{roots, start_in};
-ghost use Rattle.tree_walk.specs.Found.{IsFound, IfTooMany, FoundTooMany};
-ghost use Rattle.tree_walk.specs.Roots.{Apart};
+ghost use Rattle.run_entries.specs.Prelude.{◌≡◌, ◌<◌, ◌≤◌, List, All, length, IfOk, IfErr, true, IsStrictlySortedBy, path_cmp, RoseBy, is_shaped, paths};
+ghost use Rattle.run_entries.specs.Prelude.{max_entries, CommonWithin, side_of, roots, start_in, IsFound, IfTooMany, FoundTooMany, Apart};
 ghost use Rattle.run_entries.specs.Entries.{Walked, Listed, Tells};
 ghost use Rattle.run_entries.specs.Stopping.{IsTooLongWalk, StopsListing, stop_of_walk};
 ghost use Rattle.run_entries.specs.Tells.{keeps_events, IsAccount};

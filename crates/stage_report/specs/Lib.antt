@@ -1,3 +1,4 @@
 pub mod Stages
 pub mod Laws
 pub mod Private
+pub mod Prelude

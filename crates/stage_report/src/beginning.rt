@@ -1,9 +1,5 @@
 //! Where a stage begins.
-ghost use Rattle.std.specs.Prelude.{◌≡◌, ◌⊎◌, map, IfOk, IfErr, None};
-ghost use Rattle.std.specs.Option.{option_map};
-ghost use Rattle.run_report.specs.Prelude.{RoseBy, side_of};
-ghost use Rattle.tree_walk.specs.Roots.{Apart};
-ghost use Rattle.checkpoints.specs.Stopping.{StopsReading};
+ghost use Rattle.stage_report.specs.Prelude.{◌≡◌, ◌⊎◌, map, IfOk, IfErr, None, option_map, RoseBy, side_of, Apart, StopsReading};
 ghost use Rattle.stage_report.specs.Stages.{Begins, all_of};
 ghost use Rattle.stage_report.specs.Private.{IsBeside, IsWritable};
 

@@ -1,9 +1,5 @@
 //! The list of several stages.
-ghost use Rattle.std.specs.Prelude.{IfOk};
-ghost use Rattle.std.specs.List.Sorted.{IsStrictlySortedBy};
-ghost use Rattle.path_text.specs.Order.{path_cmp};
-ghost use Rattle.tree_walk.specs.Cut.{IsJoined};
-ghost use Rattle.tree_walk.specs.Walk.{paths_of};
+ghost use Rattle.stage_report.specs.Prelude.{IfOk, IsStrictlySortedBy, path_cmp, IsJoined, paths_of};
 
 use flat_list::FlatList;
 use path_text::OutOfMemory;

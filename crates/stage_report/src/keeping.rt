@@ -1,10 +1,6 @@
 //! The checkpoint that a stage leaves.
-ghost use Rattle.std.specs.Prelude.{◌≡◌, ◌≤◌, [], All, length, map, IfOk, IfErr, OnOk, IfSome, is_some, true};
-ghost use Rattle.std.specs.List.Sorted.{IsStrictlySortedBy};
-ghost use Rattle.run_report.specs.Prelude.{path_cmp, RoseBy, nothing_lent, is_shaped, paths, side_of};
-ghost use Rattle.checkpoints.specs.Kept.{IsKept, checkpoint_paths};
-ghost use Rattle.checkpoints.specs.Stopping.{StopsWriting};
-ghost use Rattle.run_entries.specs.Saving.{SameButAll};
+ghost use Rattle.stage_report.specs.Prelude.{◌≡◌, ◌≤◌, [], All, length, map, IfOk, IfErr, OnOk, IfSome, is_some, true, IsStrictlySortedBy, path_cmp, RoseBy};
+ghost use Rattle.stage_report.specs.Prelude.{nothing_lent, is_shaped, paths, side_of, IsKept, checkpoint_paths, StopsWriting, SameButAll};
 ghost use Rattle.stage_report.specs.Stages.{all_of};
 
 use checkpoints::write_checkpoint;

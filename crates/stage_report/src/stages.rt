@@ -1,8 +1,5 @@
 //! The work of a dwalk in stages.
-ghost use Rattle.std.specs.Prelude.{◌≡◌, [], IfOk, IfErr};
-ghost use Rattle.run_report.specs.Prelude.{RoseBy, nothing_lent, CommonWithin, side_of};
-ghost use Rattle.std.specs.Option.{option_map};
-ghost use Rattle.tool_words.specs.Limits.{WithinStage};
+ghost use Rattle.stage_report.specs.Prelude.{◌≡◌, [], IfOk, IfErr, RoseBy, nothing_lent, CommonWithin, side_of, option_map, WithinStage};
 ghost use Rattle.stage_report.specs.Stages.{stage_asked, ReportsStage, StopsStage, LeavesStage};
 ghost use Rattle.stage_report.specs.Private.{list_in, IsWritable, Walks, WalksNot};
 

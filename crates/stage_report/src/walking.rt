@@ -1,10 +1,6 @@
 //! The walk of a stage.
-ghost use Rattle.std.specs.Prelude.{◌≡◌, ◌≤◌, length, IfOk, IfErr, Some, None};
-ghost use Rattle.std.specs.List.Sorted.{IsStrictlySortedBy};
-ghost use Rattle.run_report.specs.Prelude.{path_cmp, RoseBy, max_entries, CommonWithin};
-ghost use Rattle.tree_walk.specs.Roots.{Apart};
-ghost use Rattle.tree_walk.specs.Walk.{paths_of};
-ghost use Rattle.tree_walk.specs.Cut.{found_in};
+ghost use Rattle.stage_report.specs.Prelude.{◌≡◌, ◌≤◌, length, IfOk, IfErr, Some, None, IsStrictlySortedBy, path_cmp, RoseBy, max_entries, CommonWithin, Apart};
+ghost use Rattle.stage_report.specs.Prelude.{paths_of, found_in};
 ghost use Rattle.stage_report.specs.Private.{list_in, IsBeside, IsStage, IsStageOf, IsWritable, StopsWalk};
 
 use crate::beginning::Beginning;

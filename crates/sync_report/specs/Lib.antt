@@ -2,3 +2,4 @@ pub mod Laws
 pub mod Placing
 pub mod PrivateSteps
 pub mod Syncing
+pub mod Prelude

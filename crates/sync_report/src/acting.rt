@@ -1,7 +1,5 @@
 //! The sync.
-ghost use Rattle.std.specs.Prelude.{◌≡◌, IfOk, IfSome, is_some};
-ghost use Rattle.run_report.specs.Prelude.{RoseBy, nothing_lent, CommonWithin, side_of};
-ghost use Rattle.tree_sync.specs.Syncing.{SameOutside};
+ghost use Rattle.sync_report.specs.Prelude.{◌≡◌, IfOk, IfSome, is_some, RoseBy, nothing_lent, CommonWithin, side_of, SameOutside};
 ghost use Rattle.sync_report.specs.PrivateSteps.{IsReady, MakesEqual};
 ghost use Rattle.sync_report.specs.Syncing.{Syncs};
 

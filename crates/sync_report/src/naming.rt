@@ -1,6 +1,5 @@
 //! The notes of a sync.
-ghost use Rattle.std.specs.Prelude.{◌≡◌, ◌++◌, OnOk, IfOk, filter, not};
-ghost use Rattle.tool_text.specs.NoteOrder.{AreInOrder};
+ghost use Rattle.sync_report.specs.Prelude.{◌≡◌, ◌++◌, OnOk, IfOk, filter, not, AreInOrder};
 ghost use Rattle.sync_report.specs.Syncing.{dest_notes, path_notes, says_absent, sync_failures};
 
 use flat_list::FlatList;

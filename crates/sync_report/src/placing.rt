@@ -1,6 +1,5 @@
 //! The look at the parent of the destination.
-ghost use Rattle.std.specs.Prelude.{◌≡◌, IfErr, OnOk};
-ghost use Rattle.run_report.specs.Prelude.{RoseBy, side_of};
+ghost use Rattle.sync_report.specs.Prelude.{◌≡◌, IfErr, OnOk, RoseBy, side_of};
 ghost use Rattle.sync_report.specs.PrivateSteps.{IsPlaced, StopsPlacing};
 
 use outside::Ground;

@@ -1,7 +1,5 @@
 //! The texts of a sync.
-ghost use Rattle.std.specs.Prelude.{◌≡◌, ◌∷◌, [], false, length, IfOk};
-ghost use Rattle.tool_text.specs.Notes.{note_lines};
-ghost use Rattle.tool_text.specs.Synced.{synced_line};
+ghost use Rattle.sync_report.specs.Prelude.{◌≡◌, ◌∷◌, [], false, length, IfOk, note_lines, synced_line};
 ghost use Rattle.sync_report.specs.Syncing.{counts_of};
 
 use path_text::{OutOfMemory, Path};

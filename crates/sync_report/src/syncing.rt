@@ -1,7 +1,5 @@
 //! The work of dsync.
-ghost use Rattle.std.specs.Prelude.{◌≡◌, [], IfOk, IfErr};
-ghost use Rattle.run_report.specs.Prelude.{RoseBy, nothing_lent, side_of};
-ghost use Rattle.tool_words.specs.Limits.{WithinSync};
+ghost use Rattle.sync_report.specs.Prelude.{◌≡◌, [], IfOk, IfErr, RoseBy, nothing_lent, side_of, WithinSync};
 ghost use Rattle.sync_report.specs.Syncing.{sync_asked, ReportsSync, StopsSync, LeavesSync};
 
 use crate::acting::sync_sides;

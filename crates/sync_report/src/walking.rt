@@ -1,7 +1,5 @@
 //! The walks of both sides.
-ghost use Rattle.std.specs.Prelude.{◌≡◌, IfOk, IfErr};
-ghost use Rattle.run_report.specs.Prelude.{RoseBy, CommonWithin, side_of};
-ghost use Rattle.run_entries.specs.Both.{WalksBoth, StopsEitherWalk};
+ghost use Rattle.sync_report.specs.Prelude.{◌≡◌, IfOk, IfErr, RoseBy, CommonWithin, side_of, WalksBoth, StopsEitherWalk};
 ghost use Rattle.sync_report.specs.PrivateSteps.{IsPlaced, IsReady};
 
 use outside::{Ground, nodes_have_paths};
