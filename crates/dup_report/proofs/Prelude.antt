@@ -1,5 +1,5 @@
 -- The names from elsewhere that the proofs of this crate cite, passed on from one place. Declares nothing.
-pub use Rattle.std.proofs.Common.{IfSome, List, [], ap, arith, false, inr, length, refl, rules, subst, take, ℕ, ⊎_elim, ◌++◌, ◌∙◌, ◌∷◌, ◌≡◌, ◌≤◌}
+pub use Rattle.std.proofs.Common.{IfSome, List, [], ap, arith, false, inr, length, refl, rules, subst, ℕ, ⊎_elim, ◌++◌, ◌∙◌, ◌∷◌, ◌≡◌, ◌≤◌}
 pub use Rattle.outside.specs.Count.{RoseBy}
 pub use Rattle.entry_pages.specs.declared.entries.Entry.{Entry}
 pub use Rattle.flat_list.specs.Spelling.{max_entries}
@@ -15,5 +15,6 @@ pub use Rattle.run_report.specs.declared.stops.Stop.{Stop}
 pub use Rattle.run_entries.proofs.Sided.{stats_told}
 pub use Rattle.run_entries.specs.Entries.{Walked}
 pub use Rattle.run_entries.specs.Fine.{FineWalksNameNothing, FineWalksStopForMemory, IsFineSide, StillCounts}
-pub use Rattle.dup_report.specs.Grouping.{FindsGroups, FineDup, ReportsDup, StopsDup, dup_asked, path_notes}
+pub use Rattle.run_entries.specs.Naming.{path_notes}
+pub use Rattle.dup_report.specs.Grouping.{FindsGroups, FineDup, ReportsDup, StopsDup, dup_asked}
 pub use Rattle.dup_report.specs.Laws.{FineDupSucceeds}

@@ -1,5 +1,5 @@
 -- The work of ddup: its report, the reasons to stop, that it changes nothing, and when nothing is in its way. Our own.
-use Rattle.std.specs.Prelude.{◌≡◌, ◌⊎◌, ℕ, ◌≤◌, false, List, [], ◌∷◌, ◌++◌, length, map, Option}
+use Rattle.std.specs.Prelude.{◌≡◌, ◌⊎◌, ℕ, ◌≤◌, false, List, [], ◌∷◌, ◌++◌, length, Option}
 use Rattle.outside.specs.Count.{RoseBy}
 use Rattle.outside.specs.Tree.{Files}
 use Rattle.entry_pages.specs.declared.entries.Entry.{Entry}
@@ -7,7 +7,6 @@ use Rattle.flat_list.specs.Spelling.{max_entries}
 use Rattle.tree_dup.specs.Grouping.{IsGrouping}
 use Rattle.tree_dup.specs.Told.{Grouping}
 use Rattle.tool_text.specs.declared.noting.Note.{Note}
-use Rattle.tool_text.specs.declared.noting.Why.{Why}
 use Rattle.tool_text.specs.declared.noting.Why.TheVariants as why
 use Rattle.tool_text.specs.Groups.{groups_text}
 use Rattle.tool_text.specs.Notes.{note_lines}
@@ -19,7 +18,7 @@ use Rattle.run_report.specs.declared.stops.Stop.TheVariants as stop
 use Rattle.run_report.specs.Sides.{Side, side_with}
 use Rattle.run_entries.specs.Entries.{Walked}
 use Rattle.run_entries.specs.Fine.{IsFineSide}
-use Rattle.run_entries.specs.Naming.{failures_of}
+use Rattle.run_entries.specs.Naming.{failures_of, path_notes}
 use Rattle.run_entries.specs.Stopping.{StopsListing}
 use Rattle.dup_report.specs.declared.grouping.DupTask.{DupTask}
 
@@ -34,10 +33,6 @@ pub record FindsGroups (asked : DupAsked) (entries : List Entry) (found : Groupi
   pub few : length entries ≤ max_entries
   pub grouped : IsGrouping before.tree entries found
   pub counted : RoseBy (length found.failed) walked after.count
-
--- the notes of some paths, for one reason
-abbrev pub path_notes : Why → List (List ℕ) → List Note
-path_notes reason paths = map (λ p. record { path = p; why = reason; dest = false }) paths
 
 -- the notes of all failures: the reads that failed or showed a change, and the entries of the walk
 abbrev pub dup_failures : List Entry → Grouping → List Note

@@ -1,10 +1,10 @@
 //! The notes of the files that were to be grouped.
-ghost use Rattle.dup_report.specs.Prelude.{◌≡◌, ◌++◌, OnOk, IfOk, AreInOrder};
-ghost use Rattle.dup_report.specs.Grouping.{path_notes, dup_failures};
+ghost use Rattle.dup_report.specs.Prelude.{IfOk, AreInOrder};
+ghost use Rattle.dup_report.specs.Grouping.{dup_failures};
 
 use flat_list::FlatList;
-use path_text::{OutOfMemory, Path};
-use run_entries::name_entries;
+use path_text::OutOfMemory;
+use run_entries::{name_entries, name_paths};
 use std::alloc::Global;
 use tool_text::{Note, Why, in_order};
 use tree_dup::Groups;
@@ -18,21 +18,8 @@ pub(crate) fn failures(
     ensures { IfOk result (λ notes. AreInOrder (dup_failures list.now found.now) notes.items) }
 {
     let mut notes = Vec::new(alloc);
-    add_paths(&mut notes, found.failed(), Why::FailedRead)?;
-    add_paths(&mut notes, found.changed(), Why::Changed)?;
+    name_paths(&mut notes, found.failed(), Why::FailedRead)?;
+    name_paths(&mut notes, found.changed(), Why::Changed)?;
     name_entries(alloc, &mut notes, list, false)?;
     in_order(notes)
-}
-
-fn add_paths(notes: &mut Vec<Note>, paths: &[Path], why: Why) -> Result<(), OutOfMemory>
-    ensures { OnOk result (notes.new.items ≡ notes.old.items ++ path_notes why paths.now) }
-{
-    for path in paths {
-        notes.push(Note {
-            path: path.copy()?,
-            why,
-            dest: false,
-        })?;
-    }
-    Ok(())
 }

@@ -57,7 +57,7 @@ pub use Rattle.run_entries.specs.Choosing.{newer_in, newer_than}
 pub use Rattle.run_entries.specs.Entries.{Listed, Tells, Walked}
 pub use Rattle.run_entries.specs.Fine.{DoneNamesNothing, FineFindsNameNothing, FineFindsStopForMemory, FinePlacesStopForMemory, FineWalksAreWhole}
 pub use Rattle.run_entries.specs.Fine.{FineWalksNameNothing, FineWalksStopForMemory, IsFineList, IsFineStart, IsFineWalk, StillCounts}
-pub use Rattle.run_entries.specs.Naming.{copy_notes, copy_whys, failures_in, listing_notes, look_notes, look_whys, notes_by, on_side, removal_notes}
+pub use Rattle.run_entries.specs.Naming.{copy_notes, copy_whys, failures_in, listing_notes, look_notes, look_whys, notes_by, on_side, path_notes, removal_notes}
 pub use Rattle.run_entries.specs.Naming.{removal_whys}
 pub use Rattle.run_entries.specs.Saving.{SameButAll, SameButOutputs, Saved, SavedAt, output_of}
 pub use Rattle.run_entries.specs.Stopping.{HasTooManyEntries, IsAbsent, IsDamagedList, StopsAt, StopsFinding, StopsListing, StopsSaving, stop_of_walk}

@@ -54,6 +54,10 @@ copy_notes rows = flat_map (λ row. notes_by row.0 (copy_whys row.1)) rows
 abbrev pub removal_notes : List (List ℕ × Fate) → List Note
 removal_notes rows = flat_map (λ row. notes_by row.0 (removal_whys row.1)) rows
 
+-- the notes of some paths, for one reason
+abbrev pub path_notes : Why → List (List ℕ) → List Note
+path_notes reason paths = map (λ p. record { path = p; why = reason; dest = false }) paths
+
 -- the entries of a walk or of a list file, and whether they are those of a destination
 pub record Listing : Type 0 where
   pub entries : List Entry

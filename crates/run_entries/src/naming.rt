@@ -1,6 +1,7 @@
 //! The notes of a run.
 ghost use Rattle.run_entries.specs.Prelude.{◌≡◌, ◌++◌, [], OnOk, IfOk, option_to_list, flat_map, summary_of, AreInOrder};
-ghost use Rattle.run_entries.specs.Naming.{copy_notes, copy_whys, failures_in, listing_notes, look_notes, look_whys, notes_by, removal_notes, removal_whys};
+ghost use Rattle.run_entries.specs.Naming.{copy_notes, copy_whys, failures_in, listing_notes, look_notes, look_whys, notes_by, path_notes, removal_notes};
+ghost use Rattle.run_entries.specs.Naming.{removal_whys};
 
 use flat_list::FlatList;
 use level_work::Fate;
@@ -69,6 +70,16 @@ pub fn name_removals(notes: &mut Vec<Note>, rows: &[(Path, Fate)]) -> Result<(),
 {
     for row in rows {
         add_note(notes, &row.0, removal_why(row.1))?;
+    }
+    Ok(())
+}
+
+/// Adds a note of each path, for one reason. The notes of a run are sorted at the end.
+pub fn name_paths(notes: &mut Vec<Note>, paths: &[Path], why: Why) -> Result<(), OutOfMemory>
+    ensures { OnOk result (notes.new.items ≡ notes.old.items ++ path_notes why paths.now) }
+{
+    for path in paths {
+        add_note(notes, path, Some(why))?;
     }
     Ok(())
 }

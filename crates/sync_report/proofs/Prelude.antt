@@ -1,7 +1,7 @@
 -- The names from elsewhere that the proofs of this crate cite, passed on from one place. Declares nothing.
 pub use Rattle.std.proofs.Common.{Bool, Err, IfErr, IfSome, List, None, Ok, Option, Result, Some, [], ap, append-nil, append_assoc, arith, cond, false, filter}
-pub use Rattle.std.proofs.Common.{get_or, inl, inr, length, length-append, map, min, nat_eq, not, refl, rules, subst, suc, sym, take, true, zero, ℕ, ⊎_elim}
-pub use Rattle.std.proofs.Common.{◌&&◌, ◌++◌, ◌+◌, ◌-◌, ◌<◌, ◌^◌, ◌||◌, ◌∙◌, ◌∷◌, ◌≡◌, ◌≢◌, ◌≤◌, ◌⊎◌}
+pub use Rattle.std.proofs.Common.{get_or, inl, inr, length, length-append, map, min, nat_eq, not, refl, rules, subst, suc, sym, true, zero, ℕ, ⊎_elim, ◌&&◌}
+pub use Rattle.std.proofs.Common.{◌++◌, ◌+◌, ◌-◌, ◌<◌, ◌^◌, ◌||◌, ◌∙◌, ◌∷◌, ◌≡◌, ◌≢◌, ◌≤◌, ◌⊎◌}
 pub use Rattle.std.proofs.lemmas.Bool.{and_from, and_parts, false_from_ne_true, false≢true, not-true, or_cases, or_left, or_parts, or_right}
 pub use Rattle.std.proofs.lemmas.Fn.{filter_same}
 pub use Rattle.std.proofs.lemmas.List.Elements.{All-from_recursion, recursion_from_All}
@@ -73,11 +73,11 @@ pub use Rattle.run_entries.proofs.Sided.{stat_told}
 pub use Rattle.run_entries.specs.Both.{AreSides, StopsEitherWalk, WalksBoth}
 pub use Rattle.run_entries.specs.Entries.{Walked}
 pub use Rattle.run_entries.specs.Fine.{DoneNamesNothing, FineWalksNameNothing, FineWalksStopForMemory, StillCounts}
-pub use Rattle.run_entries.specs.Naming.{copy_notes, copy_whys, notes_by, on_side, removal_notes, removal_whys}
+pub use Rattle.run_entries.specs.Naming.{copy_notes, copy_whys, notes_by, on_side, path_notes, removal_notes, removal_whys}
 pub use Rattle.run_entries.specs.Stopping.{IsTooLongWalk, StopsListing}
 pub use Rattle.run_entries.specs.declared.both.Sides.{Sides}
 pub use Rattle.sync_report.specs.Laws.{FineSyncSucceeds}
 pub use Rattle.sync_report.specs.Placing.{IsNowhere, Places, Surveys}
 pub use Rattle.sync_report.specs.PrivateSteps.{IsPlaced, IsReady, MakesEqual, StopsPlacing}
 pub use Rattle.sync_report.specs.Syncing.{AreEqualBut, FineSync, IsFineDest, IsFineEntry, LeavesSync, ReportsSync, ReportsSynced, StopsSync, Syncs, counts_of}
-pub use Rattle.sync_report.specs.Syncing.{dest_notes, entry_notes, is_named, pair_of, path_notes, says_absent, says_gone, sync_asked, sync_failures}
+pub use Rattle.sync_report.specs.Syncing.{dest_notes, entry_notes, is_named, pair_of, says_absent, says_gone, sync_asked, sync_failures}

@@ -1,6 +1,6 @@
 -- The work of dsync: its report, the reasons to stop, the paths that it may have changed, and when nothing is in its way. The tool is
 -- mpiFileUtils'; the texts, notes and statuses are our own.
-use Rattle.std.specs.Prelude.{◌≡◌, ◌⊎◌, ℕ, ◌+◌, ◌≤◌, Bool, true, false, not, ◌&&◌, List, [], ◌∷◌, ◌++◌, length, map, filter, nat_eq, All, Ok, Option, IfSome}
+use Rattle.std.specs.Prelude.{◌≡◌, ◌⊎◌, ℕ, ◌+◌, ◌≤◌, Bool, true, false, not, ◌&&◌, List, [], ◌∷◌, ◌++◌, length, filter, nat_eq, All, Ok, Option, IfSome}
 use Rattle.std.specs.Prelude.{Some, is_some}
 use Rattle.std.specs.FinMap.{get}
 use Rattle.std.specs.List.{count_by, list_any}
@@ -36,7 +36,7 @@ use Rattle.run_report.specs.declared.stops.Stop.{Stop}
 use Rattle.run_report.specs.declared.stops.Stop.TheVariants as stop
 use Rattle.run_report.specs.Sides.{Side, side_with}
 use Rattle.run_entries.specs.Fine.{IsFineSide}
-use Rattle.run_entries.specs.Naming.{copy_notes, listing_notes, removal_notes}
+use Rattle.run_entries.specs.Naming.{copy_notes, listing_notes, path_notes, removal_notes}
 use Rattle.sync_report.specs.declared.syncing.SyncTask.{SyncTask}
 use Rattle.sync_report.specs.Placing.{IsNowhere, StopsAfterLook, Surveys}
 
@@ -65,10 +65,6 @@ entry_notes entries = listing_notes (record { entries = entries; dest = false })
 -- those of the destination's walk, in which nothing need be there
 abbrev pub dest_notes : List ℕ → List Entry → List Note
 dest_notes dest entries = filter (λ n. not (says_absent dest n)) (entry_notes entries)
-
--- the notes of some paths, for one reason
-abbrev pub path_notes : Why → List (List ℕ) → List Note
-path_notes reason paths = map (λ p. record { path = p; why = reason; dest = false }) paths
 
 -- the notes of all failures: the entries of both walks, the files that could not be read, and the fates of copies and removals
 abbrev pub sync_failures : Pair → (source dest : List Entry) → Results → List Note

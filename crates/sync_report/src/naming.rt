@@ -1,10 +1,10 @@
 //! The notes of a sync.
 ghost use Rattle.sync_report.specs.Prelude.{◌≡◌, ◌++◌, OnOk, IfOk, filter, not, AreInOrder};
-ghost use Rattle.sync_report.specs.Syncing.{dest_notes, path_notes, says_absent, sync_failures};
+ghost use Rattle.sync_report.specs.Syncing.{dest_notes, says_absent, sync_failures};
 
 use flat_list::FlatList;
 use path_text::{OutOfMemory, Path};
-use run_entries::{Sides, name_copies, name_entries, name_removals};
+use run_entries::{Sides, name_copies, name_entries, name_paths, name_removals};
 use std::alloc::Global;
 use tool_text::{Note, Why, in_order};
 use tree_copy::Pair;
@@ -23,8 +23,8 @@ pub(crate) fn failures(
     let mut notes = Vec::new(alloc);
     name_entries(alloc, &mut notes, &sides.left, false)?;
     name_dest(alloc, &mut notes, &sides.right, &pair.target)?;
-    add_paths(&mut notes, synced.failed(), Why::FailedRead)?;
-    add_paths(&mut notes, synced.changed(), Why::Changed)?;
+    name_paths(&mut notes, synced.failed(), Why::FailedRead)?;
+    name_paths(&mut notes, synced.changed(), Why::Changed)?;
     name_copies(&mut notes, synced.copies())?;
     name_removals(&mut notes, synced.removals())?;
     in_order(notes)
@@ -58,17 +58,4 @@ fn says_absent(note: &Note, path: &Path) -> bool
     ensures { result ≡ says_absent path.now note.now }
 {
     note.why == Why::Gone && note.path == *path
-}
-
-fn add_paths(notes: &mut Vec<Note>, paths: &[Path], why: Why) -> Result<(), OutOfMemory>
-    ensures { OnOk result (notes.new.items ≡ notes.old.items ++ path_notes why paths.now) }
-{
-    for path in paths {
-        notes.push(Note {
-            path: path.copy()?,
-            why,
-            dest: false,
-        })?;
-    }
-    Ok(())
 }
