@@ -2,9 +2,10 @@
 ghost use Rattle.dup_report.specs.Prelude.{◌≡◌, ◌<◌, ◌^◌, length, IfOk, sum_by, file_count, groups_text, note_lines};
 
 use path_text::OutOfMemory;
+use run_entries::report_with;
 use run_report::Report;
 use std::alloc::Global;
-use tool_text::{Note, Text, put_groups, put_notes};
+use tool_text::{Note, Text, put_groups};
 use tree_dup::Groups;
 
 /// The report of groups: the lines of each group, the line with the numbers, and a line for each note.
@@ -18,10 +19,7 @@ pub(crate) fn dup_report(
     ensures notes { IfOk result (λ report. report.notes ≡ note_lines named.now) }
     ensures failed { IfOk result (λ report. report.failed ≡ length named.now) }
 {
-    let failed = named.len() as u64;
     let mut out = Text::make(alloc);
-    put_groups(&mut out, found, failed)?;
-    let mut notes = Text::make(alloc);
-    put_notes(&mut notes, named)?;
-    Ok(Report { failed, out, notes })
+    put_groups(&mut out, found, named.len() as u64)?;
+    report_with(alloc, out, named)
 }

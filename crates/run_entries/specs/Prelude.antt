@@ -12,5 +12,5 @@ pub use Rattle.find_tests.specs.Tests.{is_selected}
 pub use Rattle.tree_cmp.specs.Readers.{StatsTold}
 pub use Rattle.tree_cmp.specs.Sides.{IsSide, side}
 pub use Rattle.tool_words.specs.Asked.{choice_in, input, roots, start_in}
-pub use Rattle.run_report.specs.Prelude.{AreInOrder, CommonWithin, RoseBy, SameBut, is_file, is_shaped, max_entries, nothing_lent, path_cmp, paths, refusal}
-pub use Rattle.run_report.specs.Prelude.{side_of, summary_of}
+pub use Rattle.run_report.specs.Prelude.{AreInOrder, CommonWithin, RoseBy, SameBut, is_file, is_shaped, max_entries, note_lines, nothing_lent, path_cmp, paths}
+pub use Rattle.run_report.specs.Prelude.{refusal, side_of, summary_of}

@@ -7,7 +7,8 @@
 //! - [`name_entries`] makes the notes of a walk, also of that of a destination. [`name_copies`] and [`name_removals`] make
 //!   those of paths that were copied or removed, and [`name_paths`] those of paths that share a reason.
 //! - [`read_list`] reads a list file, [`save_list`] writes one, and [`save_lists`] several, one after the other.
-//! - [`in_asked_order`] sorts a list as asked, and [`Account::put`] writes the reports on a walk.
+//! - [`in_asked_order`] sorts a list as asked, and [`Account::put`] writes the reports on a walk. [`report_with`] makes a report
+//!   that ends with notes.
 //!
 //! Its parts:
 //!
@@ -65,7 +66,7 @@ pub use laws::{
 };
 pub use naming::{name_copies, name_entries, name_paths, name_removals};
 pub use ordering::in_asked_order;
-pub use printing::notes_text;
+pub use printing::{notes_text, report_with};
 pub use reading::read_list;
 pub use saving::{Output, save_list, save_lists};
 pub use starting::{stop_of_walk, walk_roots, walk_side};

@@ -3,9 +3,10 @@ ghost use Rattle.sync_report.specs.Prelude.{◌≡◌, ◌∷◌, [], false, len
 ghost use Rattle.sync_report.specs.Syncing.{counts_of};
 
 use path_text::{OutOfMemory, Path};
+use run_entries::report_with;
 use run_report::Report;
 use std::alloc::Global;
-use tool_text::{Note, SyncCounts, Text, Why, put_notes, put_synced};
+use tool_text::{Note, SyncCounts, Text, Why, put_synced};
 use tree_sync::SyncReport;
 
 /// The report of a sync: the line with the numbers, and a line for each note.
@@ -52,10 +53,7 @@ fn report_of(alloc: Global, counts: &SyncCounts, named: &[Note]) -> Result<Repor
     ensures notes { IfOk result (λ report. report.notes ≡ note_lines named.now) }
     ensures failed { IfOk result (λ report. report.failed ≡ length named.now) }
 {
-    let failed = named.len() as u64;
     let mut out = Text::make(alloc);
     put_synced(&mut out, counts)?;
-    let mut notes = Text::make(alloc);
-    put_notes(&mut notes, named)?;
-    Ok(Report { failed, out, notes })
+    report_with(alloc, out, named)
 }
