@@ -2,7 +2,7 @@
 pub use Rattle.std.specs.List.{count_by}
 pub use Rattle.std.specs.Prelude.{All, IfErr, IfOk, IfSome, Ok, [], false, is_some, length, ◌∷◌, ◌≡◌, ◌≤◌}
 pub use Rattle.level_work.specs.Counts.{is_done}
-pub use Rattle.tree_copy.specs.Copying.{CanCopy, FitsTree, SameButTargets, bytes_copied}
+pub use Rattle.tree_copy.specs.Copying.{SameButTargets, bytes_copied}
 pub use Rattle.tree_copy.specs.Placing.{IsPair}
 pub use Rattle.tool_words.specs.Asked.{roots}
 pub use Rattle.tool_words.specs.Limits.{WithinCopy}

@@ -8,7 +8,7 @@ use Rattle.outside.specs.Tree.{Files, is_dir}
 use Rattle.entry_pages.specs.declared.entries.Entry.{Entry}
 use Rattle.level_work.specs.declared.items.Fate.{Fate}
 use Rattle.level_work.specs.Counts.{is_done}
-use Rattle.tree_copy.specs.Copying.{bytes_copied, ends_of, treated}
+use Rattle.tree_copy.specs.Copying.{CanCopy, FitsTree, bytes_copied, ends_of, treated}
 use Rattle.tree_copy.specs.Placing.{IsPair, overlap}
 use Rattle.tree_copy.specs.declared.pairs.Pair.{Pair}
 use Rattle.tree_copy.specs.declared.pairs.PlaceError.{PlaceError}
@@ -27,6 +27,11 @@ pub record ArePlaced (given : List (List ℕ)) (tree : Option Files) (pairs : Li
   pub valid : All IsPair pairs
   pub apart : overlap (ends_of pairs) ≡ false
   pub stand : IfSome tree (λ files. All (λ pair. is_dir (get files (parent_of pair.target)) ≡ true) pairs)
+
+-- the entries can be copied to their targets, over the tree too, if the files tell one
+pub record CanBeCopied (entries : List Entry) (pairs : List Pair) (tree : Option Files) : Type 0 where
+  pub can : CanCopy entries pairs
+  pub fits : IfSome tree (FitsTree entries pairs)
 
 -- why no targets were placed
 abbrev pub StopsPlacing : List (List ℕ) → List ℕ → Side → Side → PlaceError → Type 0

@@ -1,8 +1,8 @@
 //! The copy of the entries of the walk, and its texts.
-ghost use Rattle.copy_report.specs.Prelude.{◌≡◌, ◌≤◌, IfOk, IfSome, is_some, count_by, RoseBy, nothing_lent, CommonWithin, side_of, is_done, CanCopy, FitsTree};
-ghost use Rattle.copy_report.specs.Prelude.{SameButTargets, bytes_copied};
+ghost use Rattle.copy_report.specs.Prelude.{◌≡◌, ◌≤◌, IfOk, IfSome, is_some, count_by, RoseBy, nothing_lent, CommonWithin, side_of, is_done, SameButTargets};
+ghost use Rattle.copy_report.specs.Prelude.{bytes_copied};
 ghost use Rattle.copy_report.specs.Copying.{Copies};
-ghost use Rattle.copy_report.specs.PrivateSteps.{TellsCopies};
+ghost use Rattle.copy_report.specs.PrivateSteps.{CanBeCopied, TellsCopies};
 
 use crate::naming::failures;
 use crate::printing::copy_report;
@@ -29,8 +29,7 @@ fn copy_entries<T: Threads + Sync, G: Wide<Reader: Send, Part: Send, Span: Send>
     requires within { CommonWithin common.now }
     requires range { IfSome range (λ n. 1 ≤ n) }
     requires lent { G.area files.old ≡ nothing_lent }
-    requires can { CanCopy list.now pairs.now }
-    requires fits { IfSome (G.tree files.old) (FitsTree list.now pairs.now) }
+    requires can { CanBeCopied list.now pairs.now (G.tree files.old) }
     ensures copies { IfOk result (λ report. Copies pairs.now list.now report.0 (side_of G.Plot files.old)
         (side_of G.Plot files.new)) }
     ensures copied { IfOk result (λ report. report.1 ≡ count_by (λ row. is_done row.1) report.0) }
@@ -63,8 +62,7 @@ pub(crate) fn copy_and_tell<T: Threads + Sync, G: Wide<Reader: Send, Part: Send,
     requires within { CommonWithin common.now }
     requires range { IfSome range (λ n. 1 ≤ n) }
     requires lent { G.area files.old ≡ nothing_lent }
-    requires can { CanCopy list.now pairs.now }
-    requires fits { IfSome (G.tree files.old) (FitsTree list.now pairs.now) }
+    requires can { CanBeCopied list.now pairs.now (G.tree files.old) }
     ensures told { IfOk result (TellsCopies pairs.now list.now (side_of G.Plot files.old)
         (side_of G.Plot files.new)) }
     ensures rest { IfSome (G.tree files.old) (λ before. IfSome (G.tree files.new) (SameButTargets pairs.now list.now before)) }

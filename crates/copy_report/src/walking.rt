@@ -1,7 +1,6 @@
 //! The walk of the sources.
-ghost use Rattle.copy_report.specs.Prelude.{◌≡◌, ◌≤◌, length, IfOk, IfErr, IfSome, RoseBy, max_entries, CommonWithin, side_of, CanCopy, FitsTree, roots};
-ghost use Rattle.copy_report.specs.Prelude.{Walked, StopsListing};
-ghost use Rattle.copy_report.specs.PrivateSteps.{ArePlaced};
+ghost use Rattle.copy_report.specs.Prelude.{◌≡◌, ◌≤◌, length, IfOk, IfErr, RoseBy, max_entries, CommonWithin, side_of, roots, Walked, StopsListing};
+ghost use Rattle.copy_report.specs.PrivateSteps.{ArePlaced, CanBeCopied};
 
 use flat_list::FlatList;
 use outside::Ground;
@@ -29,8 +28,7 @@ pub(crate) fn walk_sources<T: Threads + Wait + Sync, G: Ground<Reader: Send>>(
     ensures walked { IfOk result (λ list. Walked sources.items list (side_of G.Plot files.old)
         (side_of G.Plot files.new)) }
     ensures few { IfOk result (λ list. length list ≤ max_entries) }
-    ensures can { IfOk result (λ list. CanCopy list pairs.now) }
-    ensures fits { IfOk result (λ list. IfSome (G.tree files.old) (FitsTree list pairs.now)) }
+    ensures can { IfOk result (λ list. CanBeCopied list pairs.now (G.tree files.old)) }
     ensures stopped { IfErr result (StopsListing (roots sources.items) (side_of G.Plot files.old)
         (side_of G.Plot files.new)) }
     ensures same { G.tree files.new ≡ G.tree files.old }

@@ -6,14 +6,13 @@ pub returns-clause-can : goal.returns-clause-can
 returns-clause-can g c =
     let before = side_of g.G.Plot c.args.files.now in
     let after = side_of g.G.Plot c.walk_side.new.files in
+    let sources = c.args.sources.items in
+    let pairs = c.args.pairs.now in
+    let list = c.in_ok-list.field-0.list in
     let told = c.in_ok-list.ensures in
-    walk_can c.args.sources.items c.args.pairs.now c.in_ok-list.field-0.list before after c.requires.placed told.walked c.paths_are_valid.ensures told.ascend
-
-pub returns-clause-fits : goal.returns-clause-fits
-returns-clause-fits g c =
-    let before = side_of g.G.Plot c.args.files.now in
-    let after = side_of g.G.Plot c.walk_side.new.files in
-    let told = c.in_ok-list.ensures in
-    walk_fits c.entries_have_parents.ensures c.entries_are_told.ensures c.args.sources.items c.args.pairs.now c.in_ok-list.field-0.list before after
-    c.requires.placed told.walked
-    c.paths_are_valid.ensures told.ascend
+    let valid = c.paths_are_valid.ensures in
+    record {
+      can = walk_can sources pairs list before after c.requires.placed told.walked valid told.ascend;
+      fits = walk_fits c.entries_have_parents.ensures c.entries_are_told.ensures sources pairs list before after c.requires.placed told.walked
+          valid told.ascend;
+    }
