@@ -4,6 +4,7 @@ ghost use Rattle.copy_report.specs.Copying.{copied_line};
 
 use level_work::Fate;
 use path_text::{OutOfMemory, Path};
+use run_entries::look_failed;
 use run_report::Report;
 use std::alloc::Global;
 use tool_text::{Note, Text, Why, put_line, put_notes};
@@ -29,11 +30,7 @@ pub(crate) fn failed_report(alloc: Global, path: Path) -> Result<Report, OutOfMe
     ensures notes { IfOk result (λ report. report.notes ≡ note_lines (record { path = path; why = Why.FailedStat; dest = false } ∷ [])) }
     ensures failed { IfOk result (λ report. report.failed ≡ 1) }
 {
-    let note = Note {
-        path,
-        why: Why::FailedStat,
-        dest: false,
-    };
+    let note = look_failed(path);
     report_of(alloc, 0, 0, 0, &[note])
 }
 

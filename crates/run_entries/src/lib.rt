@@ -6,6 +6,7 @@
 //!   ([`Sides`]), and [`walk_roots`] walks roots as they are.
 //! - [`name_entries`] makes the notes of a walk, also of that of a destination. [`name_copies`] and [`name_removals`] make
 //!   those of paths that were copied or removed, and [`name_paths`] those of paths that share a reason.
+//!   [`look_failed`] is that of a failed look.
 //! - [`read_list`] reads a list file, [`save_list`] writes one, and [`save_lists`] several, one after the other.
 //! - [`in_asked_order`] sorts a list as asked, and [`Account::put`] writes the reports on a walk. [`report_with`] makes a report
 //!   that ends with notes.
@@ -64,7 +65,7 @@ pub use laws::{
     fine_places_stop_for_memory, fine_walks_are_whole, fine_walks_name_nothing,
     fine_walks_stop_for_memory, still_counts,
 };
-pub use naming::{name_copies, name_entries, name_paths, name_removals};
+pub use naming::{look_failed, name_copies, name_entries, name_paths, name_removals};
 pub use ordering::in_asked_order;
 pub use printing::{notes_text, report_with};
 pub use reading::read_list;

@@ -1,5 +1,5 @@
 //! The notes of a run.
-ghost use Rattle.run_entries.specs.Prelude.{◌≡◌, ◌++◌, [], OnOk, IfOk, option_to_list, flat_map, summary_of, AreInOrder};
+ghost use Rattle.run_entries.specs.Prelude.{◌≡◌, ◌++◌, [], OnOk, IfOk, option_to_list, flat_map, summary_of, AreInOrder, false};
 ghost use Rattle.run_entries.specs.Naming.{copy_notes, copy_whys, failures_in, listing_notes, look_notes, look_whys, notes_by, path_notes, removal_notes};
 ghost use Rattle.run_entries.specs.Naming.{removal_whys};
 
@@ -82,6 +82,17 @@ pub fn name_paths(notes: &mut Vec<Note>, paths: &[Path], why: Why) -> Result<(),
         add_note(notes, path, Some(why))?;
     }
     Ok(())
+}
+
+/// The note of a path at which the look failed.
+pub fn look_failed(path: Path) -> Note
+    ensures { result ≡ record { path = path; why = Why.FailedStat; dest = false } }
+{
+    Note {
+        path,
+        why: Why::FailedStat,
+        dest: false,
+    }
 }
 
 fn add_looks(notes: &mut Vec<Note>, looks: &[Look]) -> Result<(), OutOfMemory>

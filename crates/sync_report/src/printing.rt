@@ -3,7 +3,7 @@ ghost use Rattle.sync_report.specs.Prelude.{◌≡◌, ◌∷◌, [], false, len
 ghost use Rattle.sync_report.specs.Syncing.{counts_of};
 
 use path_text::{OutOfMemory, Path};
-use run_entries::report_with;
+use run_entries::{look_failed, report_with};
 use run_report::Report;
 use std::alloc::Global;
 use tool_text::{Note, SyncCounts, Text, Why, put_synced};
@@ -34,11 +34,7 @@ pub(crate) fn failed_report(alloc: Global, path: Path) -> Result<Report, OutOfMe
     ensures notes { IfOk result (λ report. report.notes ≡ note_lines (record { path = path; why = Why.FailedStat; dest = false } ∷ [])) }
     ensures failed { IfOk result (λ report. report.failed ≡ 1) }
 {
-    let note = Note {
-        path,
-        why: Why::FailedStat,
-        dest: false,
-    };
+    let note = look_failed(path);
     let counts = SyncCounts {
         copied: 0,
         removed: 0,
