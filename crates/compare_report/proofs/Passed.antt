@@ -73,10 +73,3 @@ one_passed paths at q x h l is e = record {
       subst (All (λ p. path_cmp p q ≡ Less)) (sym (rw (add-one, take-suc paths at x l)))
       (All-push (λ p. path_cmp p q ≡ Less) (take at paths) (get_or paths at x) h.before (subst (λ y. path_cmp y q ≡ Less) is e));
 }
-
--- what is sought next comes later
-pub passed_later : (paths : List (List ℕ)) (at : ℕ) (q r : List ℕ) → path_cmp q r ≡ Less → IsPassed paths at q → IsPassed paths at r
-passed_later paths at q r e h = record {
-  inside = h.inside;
-  before = λ k d l. path_cmp_total.trans (get_or (take at paths) k d) q r (h.before k d l) e;
-}

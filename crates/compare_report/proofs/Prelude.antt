@@ -5,7 +5,7 @@ pub use Rattle.std.proofs.Common.{◌≤◌}
 pub use Rattle.std.proofs.Math.ListN.{get_or-map}
 pub use Rattle.std.proofs.Math.Seq.{drop-cons, take-suc}
 pub use Rattle.std.proofs.lemmas.Bool.{false≢true}
-pub use Rattle.std.proofs.lemmas.List.{drop_all, get_or_default, length-map, map-append, take-append-drop}
+pub use Rattle.std.proofs.lemmas.List.{drop_all, length-map, map-append, take-append-drop}
 pub use Rattle.std.proofs.lemmas.List.Elements.{All-append, All-filter, All-from_recursion, All-push, filter-append, recursion_from_All}
 pub use Rattle.std.proofs.lemmas.List.Folds.{list_any-append}
 pub use Rattle.std.proofs.lemmas.List.Sorted.{All-permutation, sum_by-IsPermutation}
@@ -17,11 +17,11 @@ pub use Rattle.std.specs.List.{All, AllByRecursion, AllZip, list_any, sum_by}
 pub use Rattle.std.specs.List.Sorted.{IsPermutation, IsSortedByKey, IsStrictlySortedBy}
 pub use Rattle.std.specs.Option.{is_some}
 pub use Rattle.std.specs.Ordering.{is_eq, is_lt, ordering_reverse}
-pub use Rattle.std.specs.Prelude.{Err, IfOk, IsTrue, Ok, Result, nat_eq, slice_get}
+pub use Rattle.std.specs.Prelude.{Err, IfOk, Ok, Result, nat_eq, slice_get}
 pub use Rattle.std.specs.declared.cmp.Ordering.{Ordering}
 pub use Rattle.std.specs.declared.cmp.Ordering.TheVariants.{Equal, Greater, Less}
-pub use Rattle.path_text.specs.Graft.{BelowKeepsOrder, below_of}
-pub use Rattle.path_text.specs.Order.{is_within, path_cmp}
+pub use Rattle.path_text.specs.Graft.{below_of}
+pub use Rattle.path_text.specs.Order.{path_cmp}
 pub use Rattle.path_text.specs.Total.{path_cmp_same, path_cmp_ties, path_cmp_total}
 pub use Rattle.outside.specs.Count.{RoseBy, StoodStill}
 pub use Rattle.outside.specs.Tree.{Files}
@@ -30,7 +30,8 @@ pub use Rattle.entry_pages.specs.Entries.{is_shaped}
 pub use Rattle.entry_pages.specs.declared.entries.Entry.{Entry}
 pub use Rattle.flat_list.specs.Spelling.{paths}
 pub use Rattle.tree_walk.proofs.Same.{higher}
-pub use Rattle.tree_cmp.proofs.Passing.{none_some, some_same, sorted_next}
+pub use Rattle.tree_cmp.proofs.Passing.{IsHere, follow, here, next_below, none_some, passed_later, some_same, step, taken, whole}
+pub use Rattle.tree_cmp.specs.Passes.{IsNext, IsPassed}
 pub use Rattle.tree_cmp.specs.Rows.{Findings, IsComparison}
 pub use Rattle.tree_cmp.specs.Sides.{side}
 pub use Rattle.tree_cmp.specs.declared.conditions.Condition.{Condition}
@@ -53,6 +54,6 @@ pub use Rattle.run_entries.specs.declared.saving.Output.{Output}
 pub use Rattle.compare_report.specs.Comparing.{Compares, FineCompare, LeavesCompare, ReportsCompare, StopsCompare, compare_asked, missed_notes}
 pub use Rattle.compare_report.specs.Laws.{FineCompareSucceeds}
 pub use Rattle.compare_report.specs.Outputs.{AreOutputs, IsJoined, IsSelected, given_paths, is_given, is_new, picks}
-pub use Rattle.compare_report.specs.PrivatePicks.{IsNext, IsPassed, picks_but}
+pub use Rattle.compare_report.specs.PrivatePicks.{picks_but}
 pub use Rattle.compare_report.specs.PrivateSteps.{IsPrepared}
 pub use Rattle.compare_report.specs.declared.comparing.Prepared.{Prepared}

@@ -1,8 +1,8 @@
 //! The entries of a list at some paths.
 ghost use Rattle.compare_report.specs.Prelude.{◌≡◌, ◌++◌, ◌∷◌, ◌&&◌, [], not, if◌then◌else◌, OnOk, IfOk, filter, nat_eq, pointwise, list_any};
-ghost use Rattle.compare_report.specs.Prelude.{IsStrictlySortedBy, path_cmp, paths, side, IsSide};
+ghost use Rattle.compare_report.specs.Prelude.{IsStrictlySortedBy, path_cmp, paths, side, IsSide, IsPassed};
 ghost use Rattle.compare_report.specs.Outputs.{picks, IsJoined};
-ghost use Rattle.compare_report.specs.PrivatePicks.{picks_but, IsPassed};
+ghost use Rattle.compare_report.specs.PrivatePicks.{picks_but};
 
 use flat_list::{Entry, FlatList};
 use path_text::{OutOfMemory, Path, below_keeps_order};

@@ -1,6 +1,6 @@
 use Rattle.compare_report.proofs.Prelude.{◌≡◌, ℕ, ◌&&◌, not, List, ap, arith, subst, sym, ◌∙◌, pointwise, list_any, nat_eq, below_of, Entry, picks_but}
-use Rattle.compare_report.proofs.Prelude.{IsPassed}
-use Rattle.compare_report.proofs.Picked.{IsHere, here, next_by_path, next_below, picked_more}
+use Rattle.compare_report.proofs.Prelude.{IsPassed, IsHere, here, step, whole, next_below}
+use Rattle.compare_report.proofs.Picked.{next_by_path, picked_more}
 use Rattle.compare_report.proofs.picking.add_picked.Goals as goal
 
 pub seek-at_here-requires-clause-passed : goal.seek-at_here-requires-clause-passed
@@ -35,10 +35,9 @@ loop-cursor-preserved c =
     let picked : (c.seek-at_here.result.1 && not c.seek-past_here.result.1) ≡ picks_but top c.args.wanted.now c.args.but.now e =
     λ i. found i && not (c.seek-past_here.ensures.found i)
     in
-    let step = ap (λ (p : List Entry × ℕ). p.1) at.moved in
     record {
-      of_entries = ap (λ (p : List Entry × ℕ). p.0) at.moved;
-      inside = omega (arith, step, at.inside);
+      of_entries = whole side old.cursor.1 e new at;
+      inside = omega (arith, step side old.cursor.1 e new at, at.inside);
       so_far =
           picked_more (picks_but top c.args.wanted.now c.args.but.now) side c.args.list.now old.list _ old.cursor.1 e new
           (c.seek-at_here.result.1 && not c.seek-past_here.result.1) at old.invariant.so_far picked c.in_ok-add_if.ensures;
