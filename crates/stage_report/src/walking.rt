@@ -1,5 +1,5 @@
 //! The walk of a stage.
-ghost use Rattle.stage_report.specs.Prelude.{◌≡◌, ◌≤◌, length, IfOk, IfErr, Some, None, IsStrictlySortedBy, path_cmp, RoseBy, max_entries, CommonWithin, Apart};
+ghost use Rattle.stage_report.specs.Prelude.{◌≡◌, ◌≤◌, length, IfOk, IfErr, Some, IsStrictlySortedBy, path_cmp, RoseBy, max_entries, CommonWithin, Apart};
 ghost use Rattle.stage_report.specs.Prelude.{paths_of, found_in};
 ghost use Rattle.stage_report.specs.Private.{list_in, IsBeside, IsStage, IsStageOf, IsWritable, StopsWalk};
 
@@ -56,66 +56,47 @@ pub(crate) fn walk_stage<T: Threads + Wait + Sync, G: Ground<Reader: Send>>(
     ensures area { G.area files.new ≡ G.area files.old }
     ensures count { RoseBy 0 (G.count files.old) (G.count files.new) }
 {
-    let Beginning { done, starts } = beginning;
-    let stage = stage_from(rt, alloc, common, stop_after, done, starts, files)?;
+    let stage = stage_from(rt, alloc, common, stop_after, beginning, files)?;
     if stage.list().len() > MAX_ENTRIES {
         return Err(Stop::TooMany);
     }
     Ok(stage)
 }
 
-// The stage that begins with these entries done and walks these paths, however many entries it finds.
+// The stage from this beginning, however many entries it finds.
 fn stage_from<T: Threads + Wait + Sync, G: Ground<Reader: Send>>(
     rt: &T,
     alloc: Global,
     common: &Common,
     stop_after: Option<u64>,
-    done: FlatList,
-    starts: Vec<Path>,
+    beginning: Beginning,
     files: &mut G,
 ) -> Result<Stage, Stop>
     requires within { CommonWithin common.now }
-    requires apart { Apart starts.items }
-    ensures stage { IfOk result (IsStage stop_after common.now (G.tree files.old) done starts.items (G.count files.old) (G.count files.new)) }
-    ensures stopped { IfErr result (StopsWalk stop_after common.now (G.tree files.old) done starts.items (G.count files.old) (G.count files.new)) }
+    requires apart { Apart beginning.starts.items }
+    ensures stage { IfOk result (IsStage stop_after common.now (G.tree files.old) beginning.done beginning.starts.items
+        (G.count files.old) (G.count files.new)) }
+    ensures stopped { IfErr result (StopsWalk stop_after common.now (G.tree files.old) beginning.done beginning.starts.items
+        (G.count files.old) (G.count files.new)) }
     ensures same { G.tree files.new ≡ G.tree files.old }
     ensures area { G.area files.new ≡ G.area files.old }
     ensures count { RoseBy 0 (G.count files.old) (G.count files.new) }
 {
+    let Beginning { done, starts } = beginning;
     // The count of faults is a number of 64 bits.
     let _faults = files.faults();
     match stop_after {
         Some(most) => stop_or_finish(rt, alloc, common, most, done, starts, files),
-        None => finish(rt, alloc, common, done, starts, files),
+        None => {
+            let entries = match walk_roots(rt, alloc, common, starts, files) {
+                Ok(entries) => entries,
+                Err(why) => return Err(stop_of_walk(why)),
+            };
+            let Entries { list, account } = entries;
+            let list = joined(alloc, done, list)?;
+            Ok(Stage::Finished { list, account })
+        }
     }
-}
-
-// Walks to the end.
-fn finish<T: Threads + Wait + Sync, G: Ground<Reader: Send>>(
-    rt: &T,
-    alloc: Global,
-    common: &Common,
-    done: FlatList,
-    starts: Vec<Path>,
-    files: &mut G,
-) -> Result<Stage, Stop>
-    requires within { CommonWithin common.now }
-    requires apart { Apart starts.items }
-    ensures stage { IfOk result (IsStage None common.now (G.tree files.old) done starts.items (G.count files.old) (G.count files.new)) }
-    ensures stopped { IfErr result (StopsWalk None common.now (G.tree files.old) done starts.items (G.count files.old) (G.count files.new)) }
-    ensures same { G.tree files.new ≡ G.tree files.old }
-    ensures area { G.area files.new ≡ G.area files.old }
-    ensures count { RoseBy 0 (G.count files.old) (G.count files.new) }
-{
-    // The count of faults is a number of 64 bits.
-    let _faults = files.faults();
-    let entries = match walk_roots(rt, alloc, common, starts, files) {
-        Ok(entries) => entries,
-        Err(why) => return Err(stop_of_walk(why)),
-    };
-    let Entries { list, account } = entries;
-    let list = joined(alloc, done, list)?;
-    Ok(Stage::Finished { list, account })
 }
 
 // Walks until a rank has handled so many paths, or to the end.
