@@ -8,15 +8,17 @@ some_rank left some none = absurd (omega (arith, some, ap (λ ls. length (all_of
 
 pub checkpoints_are_cuts : Laws → CutGoesOn → CheckpointsAreCuts
 checkpoints_are_cuts laws more asked before after why files new starts within tree told told' same begins s =
-    let first = begins_at_cut laws asked.starts asked.lists before files starts s.begun.starts s.begun.done within.starts told begins s.begun.begins in
-    let second = of_told (λ files. IsCut files s.begun.starts s.cut.later (all_of s.left)) before.tree files told s.cut.cut.told in
+    let was = s.was in
+    let begun = was.begun in
+    let first = begins_at_cut laws asked.starts asked.lists before files starts begun.starts begun.done within.starts told begins begun.begins in
+    let second = of_told (λ files. IsCut files begun.starts was.cut.later (all_of was.left)) before.tree files told was.cut.cut.told in
     record {
-      done = s.list;
-      left = s.left;
-      kept = of_told (IsKept asked.lists s.list s.left) after.tree new told' s.kept;
-      some_rank = some_rank s.left s.cut.some_left;
+      done = was.list;
+      left = was.left;
+      kept = of_told (IsKept asked.lists was.list was.left) after.tree new told' s.kept;
+      some_rank = some_rank was.left was.cut.some_left;
       walked = files;
       tree = tree;
       same = same;
-      cut = more files starts s.begun.starts (all_of s.left) s.begun.done s.cut.later s.list first second s.cut.joined.all;
+      cut = more files starts begun.starts (all_of was.left) begun.done was.cut.later was.list first second was.cut.joined.all;
     }

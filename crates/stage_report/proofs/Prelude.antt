@@ -82,5 +82,6 @@ pub use Rattle.list_report.specs.Lists.{ReportsList, summary_text}
 pub use Rattle.stage_report.specs.Laws.{BeginsWalk, CheckpointsAreCuts, FineStageSucceeds, StagesPrintTheWalk, StoppedStagesAreKept}
 pub use Rattle.stage_report.specs.Private.{IsBeside, IsStage, IsStageOf, IsWritable, StopsWalk, Walks, WalksNot, list_in}
 pub use Rattle.stage_report.specs.Stages.{Begins, Begun, FindsTooMany, FineStage, IsCutOff, IsFineBeginning, IsFineCheckpoint, IsStoppable, LeavesStage}
-pub use Rattle.stage_report.specs.Stages.{ReportsStage, StopsBeginning, StopsKeeping, StopsSavingStage, StopsStage, all_of, kept_paths, stage_asked}
+pub use Rattle.stage_report.specs.Stages.{ReportsStage, StopsBeginning, StopsKeeping, StopsSavingStage, StopsStage, WasCut, WasWhole, all_of, kept_paths}
+pub use Rattle.stage_report.specs.Stages.{stage_asked}
 pub use Rattle.stage_report.specs.declared.walking.Stage.{Stage}

@@ -93,18 +93,19 @@ pub record Laws : Type 0 where
 pub stages_print_the_walk : Laws → StagesPrintTheWalk
 stages_print_the_walk laws asked before after report files listed now first last whole_report other given starts told again cut none r stood
     told' same valid are begins all sort w stood' =
-    let b = subst (λ s. Begins s asked.lists before r.begun.done r.begun.starts) again r.begun.begins in
-    let on = goes_on laws.one_kept asked.lists before files r.begun.done cut.done r.begun.starts cut.left told (some_of cut.left cut.some_rank) cut.kept b in
-    let f = r.finished in
+    let b = subst (λ s. Begins s asked.lists before r.was.begun.done r.was.begun.starts) again r.was.begun.begins in
+    let on = goes_on laws.one_kept asked.lists before files r.was.begun.done cut.done r.was.begun.starts cut.left told
+    (some_of cut.left cut.some_rank) cut.kept b in
+    let f = r.was.finished in
     let later = f.later in
-    let walks = of_told (λ files. IsWalkOf files later r.begun.starts) before.tree files told f.walked.told in
-    let still = stood_within before.count r.begun.count r.found after.count r.begun.kept f.walked.counted.kept r.later stood in
+    let walks = of_told (λ files. IsWalkOf files later r.was.begun.starts) before.tree files told f.walked.told in
+    let still = stood_within before.count r.was.begun.count r.was.found after.count r.was.begun.kept f.walked.counted.kept r.was.later stood in
     let is = whole laws.one_roots listed now first last whole_report other given starts told' valid are begins all w stood' in
-    let list : r.list ≡ w.chosen =
-    laws.restart cut.walked files other starts (all_of cut.left) cut.done later r.list w.chosen cut.tree
+    let list : r.was.list ≡ w.chosen =
+    laws.restart cut.walked files other starts (all_of cut.left) cut.done later r.was.list w.chosen cut.tree
     (All-from_recursion Valid starts (roots_valid given starts valid are)) are.apart cut.same (λ q h. same q h ∙ cut.same q h) cut.cut
-    (subst (IsWalkOf files later) (sym on.same_left) walks) (subst (λ d. IsJoined d later r.list) (sym on.same_done) f.joined) is.walks none
-    (none_counted (sum_by weight_of later) r.begun.count r.found f.walked.counted still) is.fine in
+    (subst (IsWalkOf files later) (sym on.same_left) walks) (subst (λ d. IsJoined d later r.was.list) (sym on.same_done) f.joined) is.walks none
+    (none_counted (sum_by weight_of later) r.was.begun.count r.was.found f.walked.counted still) is.fine in
     let printed : r.printed ≡ w.printed =
     one_printed laws.sorts asked.sort w.chosen r.printed w.printed is.rise (subst (λ es. InOrder asked.sort es r.printed) list r.order)
     (subst (λ s. InOrder s w.chosen w.printed) sort w.order) in

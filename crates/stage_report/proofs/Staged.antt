@@ -3,7 +3,7 @@ use Rattle.stage_report.proofs.Prelude.{◌≡◌, ◌⊎◌, ℕ, ◌≤◌, Li
 use Rattle.stage_report.proofs.Prelude.{IsErrAnd, Vec, Global, length-map, Files, Entry, lines_of, Note, AreInOrder, StageAsked, Common, max_entries, Report}
 use Rattle.stage_report.proofs.Prelude.{Stop, Side, side_with, Account, InOrder, notes_text, failures_in, Saved, output_of, SameButAll, StopsSaving, IsKept}
 use Rattle.stage_report.proofs.Prelude.{checkpoint_paths, StopsReading, StopsWriting, summary_text, Stage, all_of, Begins, Begun, FindsTooMany, IsCutOff}
-use Rattle.stage_report.proofs.Prelude.{ReportsStage, StopsStage, StopsWalk, Walks, WalksNot}
+use Rattle.stage_report.proofs.Prelude.{ReportsStage, StopsStage, StopsWalk, Walks, WalksNot, WasCut, WasWhole}
 use Rattle.run_report.specs.declared.stops.Stop.TheVariants as stop
 use Rattle.stage_report.specs.declared.walking.Stage.TheVariants as stage
 
@@ -56,13 +56,12 @@ not_walked asked before after why same (inr (inr (named, much))) =
       same = same;
     })))
 
--- a whole list was not saved
-pub not_saved : (asked : StageAsked) (before walked after : Side) {first : Stage} (w : WalksAs asked before walked first) (list : List Entry)
-    (account : Account) (why : Stop) → first ≡ stage.Finished list account → walked.count ≤ after.count →
-    StopsSaving (output_of asked.output list) walked after why → StopsStage asked before after why
-not_saved asked before walked after w list account why is later stops =
+-- the walk was whole
+abbrev was_whole : (asked : StageAsked) (before walked after : Side) {first : Stage} (w : WalksAs asked before walked first) (list : List Entry)
+    (account : Account) → first ≡ stage.Finished list account → walked.count ≤ after.count → WasWhole asked before after
+was_whole asked before walked after w list account is later =
     let whole = subst (WalksAs asked before walked) is w in
-    inr (inr (inr (inl (record {
+    record {
       begun = begun_in asked before walked whole;
       found = walked.count;
       list = list;
@@ -70,6 +69,15 @@ not_saved asked before walked after w list account why is later stops =
       finished = whole.is;
       few = whole.few;
       later = later;
+    }
+
+-- a whole list was not saved
+pub not_saved : (asked : StageAsked) (before walked after : Side) {first : Stage} (w : WalksAs asked before walked first) (list : List Entry)
+    (account : Account) (why : Stop) → first ≡ stage.Finished list account → walked.count ≤ after.count →
+    StopsSaving (output_of asked.output list) walked after why → StopsStage asked before after why
+not_saved asked before walked after w list account why is later stops =
+    inr (inr (inr (inl (record {
+      was = was_whole asked before walked after w list account is later;
       stops = subst (λ t. StopsSaving (output_of asked.output list) (side_with t walked.count) after why) w.same stops;
     }))))
 
@@ -95,20 +103,27 @@ cut_off asked before walked w handled list left strings is are =
     } in
     subst (CutOff asked before walked list handled) (sym are) off
 
--- it was not
+-- the walk was cut
+abbrev was_cut : (asked : StageAsked) (before walked after : Side) (list : List Entry) (handled : ℕ) (strings : List (Vec (List ℕ) Global)) →
+    CutOff asked before walked list handled strings → walked.count ≤ after.count → WasCut asked before after
+was_cut asked before walked after list handled strings off later = record {
+  begun = off.begun;
+  found = walked.count;
+  handled = handled;
+  list = list;
+  left = map (λ strings. strings.items) strings;
+  cut = off.cut;
+  few = off.few;
+  later = later;
+}
+
+-- its checkpoint was not kept
 pub not_kept : (asked : StageAsked) (before walked after : Side) (list : List Entry) (handled : ℕ) (strings : List (Vec (List ℕ) Global)) (why : Stop) →
     CutOff asked before walked list handled strings → walked.count ≤ after.count → StopsWriting asked.lists (length strings) list walked after why →
     StopsStage asked before after why
 not_kept asked before walked after list handled strings why off later stops =
     inr (inr (inr (inr (inl (record {
-      begun = off.begun;
-      found = walked.count;
-      handled = handled;
-      list = list;
-      left = map (λ strings. strings.items) strings;
-      cut = off.cut;
-      few = off.few;
-      later = later;
+      was = was_cut asked before walked after list handled strings off later;
       stops = subst (λ n. StopsWriting asked.lists n list (side_with before.tree walked.count) after why)
           (sym (length-map strings (λ strings. strings.items)))
           (subst (λ t. StopsWriting asked.lists (length strings) list (side_with t walked.count) after why) off.same stops);
@@ -122,14 +137,7 @@ pub kept : (asked : StageAsked) (before walked after : Side) (list : List Entry)
     why ≡ stop.Stopped handled (length (all_of (map (λ strings. strings.items) strings))) → StopsStage asked before after why
 kept asked before walked after list handled strings why off later holds rest named =
     inr (inr (inr (inr (inr (record {
-      begun = off.begun;
-      found = walked.count;
-      handled = handled;
-      list = list;
-      left = map (λ strings. strings.items) strings;
-      cut = off.cut;
-      few = off.few;
-      later = later;
+      was = was_cut asked before walked after list handled strings off later;
       kept = holds;
       rest =
           subst (λ n. IfSome before.tree (λ files. IfSome after.tree (SameButAll (checkpoint_paths asked.lists n) files)))
@@ -163,25 +171,17 @@ prints_all asked list chosen account told notes report all same names printed te
 pub reports : (asked : StageAsked) (before walked after : Side) {first : Stage} (w : WalksAs asked before walked first) (list : List Entry)
     (account : Account) (report : Report) → first ≡ stage.Finished list account → walked.count ≤ after.count →
     Saved (output_of asked.output list) walked.tree after.tree → Printed asked list account report → ReportsStage asked before after report
-reports asked before walked after w list account report is later saved p =
-    let whole = subst (WalksAs asked before walked) is w in
-    record {
-      begun = begun_in asked before walked whole;
-      found = walked.count;
-      list = list;
-      account = account;
-      finished = whole.is;
-      few = whole.few;
-      later = later;
-      saved = subst (λ t. Saved (output_of asked.output list) t after.tree) w.same saved;
-      notes = p.notes;
-      names = p.names;
-      printed = p.printed.0;
-      order = p.printed.1;
-      prints = p.printed.2;
-      tells = p.tells;
-      counts = p.counts;
-    }
+reports asked before walked after w list account report is later saved p = record {
+  was = was_whole asked before walked after w list account is later;
+  saved = subst (λ t. Saved (output_of asked.output list) t after.tree) w.same saved;
+  notes = p.notes;
+  names = p.names;
+  printed = p.printed.0;
+  order = p.printed.1;
+  prints = p.printed.2;
+  tells = p.tells;
+  counts = p.counts;
+}
 
 -- what holds of a reason holds of the answer that tells it
 pub told_as : (r : Result Report Stop) (why : Stop) (P : Stop → Type 0) → IsErrAnd r (λ e. e ≡ why) → P why → IfErr r P

@@ -41,5 +41,5 @@ stopped_are_kept asked before after handled left (inr (inr (inl long))) = cc (lo
 stopped_are_kept asked before after handled left (inr (inr (inr (inl unsaved)))) = absurd unsaved.stops.stops
 stopped_are_kept asked before after handled left (inr (inr (inr (inr (inl unkept))))) =
     absurd
-    (by_writing asked.lists (length unkept.left) unkept.list (side_with before.tree unkept.found) after handled left unkept.stops)
+    (by_writing asked.lists (length unkept.was.left) unkept.was.list (side_with before.tree unkept.was.found) after handled left unkept.stops)
 stopped_are_kept asked before after handled left (inr (inr (inr (inr (inr kept))))) = kept

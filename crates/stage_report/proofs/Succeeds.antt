@@ -44,12 +44,12 @@ after_still {asked} {before} {after} s b found from to =
 names_nothing : {asked : StageAsked} {before after : Side} (s : IsFineStage asked before after) (report : Report) → ReportsStage asked before after report →
     report.failed ≡ 0
 names_nothing {asked} {before} {after} s report r =
-    let b = begun s r.begun in
-    let f = r.finished in
-    let is = found_fine s.laws.walks s.fine.files r.begun.done r.begun.starts before.tree r.begun.count r.found f.later s.fine.told b f.walked
-    (still s r.begun r.found f.walked.counted.kept r.later) in
-    let all = joined_fine r.begun.done f.later r.list f.joined b.fine is.fine in
-    r.counts ∙ ap length (s.laws.notes.none r.notes (subst (λ given. AreInOrder given r.notes) (no_failures r.list all) r.names))
+    let b = begun s r.was.begun in
+    let f = r.was.finished in
+    let is = found_fine s.laws.walks s.fine.files r.was.begun.done r.was.begun.starts before.tree r.was.begun.count r.was.found f.later s.fine.told b f.walked
+    (still s r.was.begun r.was.found f.walked.counted.kept r.was.later) in
+    let all = joined_fine r.was.begun.done f.later r.was.list f.joined b.fine is.fine in
+    r.counts ∙ ap length (s.laws.notes.none r.notes (subst (λ given. AreInOrder given r.notes) (no_failures r.was.list all) r.names))
 
 -- ---- it is not too long
 
@@ -88,16 +88,17 @@ no_beginning {asked} {before} {after} s why b =
 no_saving : {asked : StageAsked} {before after : Side} (s : IsFineStage asked before after) (why : Stop) → StopsSavingStage asked before after why →
     why ≡ stop.OutOfMemory
 no_saving {asked} {before} {after} s why b =
-    s.laws.places (output_of asked.output b.list) s.fine.files (side_with before.tree b.found) after why s.fine.told
-    (has_place s.fine.files asked.output b.list s.fine.place) (after_still s b.begun b.found b.finished.walked.counted.kept b.later) b.stops
+    s.laws.places (output_of asked.output b.was.list) s.fine.files (side_with before.tree b.was.found) after why s.fine.told
+    (has_place s.fine.files asked.output b.was.list s.fine.place) (after_still s b.was.begun b.was.found b.was.finished.walked.counted.kept b.was.later) b.stops
 
 no_keeping : {asked : StageAsked} {before after : Side} (s : IsFineStage asked before after) (why : Stop) → StopsKeeping asked before after why →
     why ≡ stop.OutOfMemory
 no_keeping {asked} {before} {after} s why b =
-    let room = subst (λ n. All (IsFree s.fine.files) (kept_paths n asked.lists asked.common.ranks)) b.cut.is_most s.fine.room in
-    let places = subst (λ n. All (IsFree s.fine.files) (checkpoint_paths asked.lists n)) (sym b.cut.ranks) room in
-    s.laws.writes asked.lists (length b.left) b.list s.fine.files (side_with before.tree b.found) after why s.within.lists
-    (omega (arith, b.cut.ranks, s.within.common.ranks.1)) s.fine.told (after_still s b.begun b.found b.cut.cut.counted.kept b.later) places b.stops
+    let room = subst (λ n. All (IsFree s.fine.files) (kept_paths n asked.lists asked.common.ranks)) b.was.cut.is_most s.fine.room in
+    let places = subst (λ n. All (IsFree s.fine.files) (checkpoint_paths asked.lists n)) (sym b.was.cut.ranks) room in
+    s.laws.writes asked.lists (length b.was.left) b.was.list s.fine.files (side_with before.tree b.was.found) after why s.within.lists
+    (omega (arith, b.was.cut.ranks, s.within.common.ranks.1)) s.fine.told
+    (after_still s b.was.begun b.was.found b.was.cut.cut.counted.kept b.was.later) places b.stops
 
 abbrev InTime : StageAsked → Stop → Type 0
 InTime asked why = (why ≡ stop.OutOfMemory) ⊎ ((is_some asked.stop_after ≡ true) × ((handled left : ℕ) × (why ≡ stop.Stopped handled left)))
@@ -108,7 +109,7 @@ in_time s why (inr (inl b)) = inl (no_beginning s why b)
 in_time s why (inr (inr (inl b))) = absurd (too_long s b.begun b.many)
 in_time s why (inr (inr (inr (inl b)))) = inl (no_saving s why b)
 in_time s why (inr (inr (inr (inr (inl b))))) = inl (no_keeping s why b)
-in_time s why (inr (inr (inr (inr (inr b))))) = inr (ap is_some b.cut.is_most, (b.handled, _, b.named))
+in_time s why (inr (inr (inr (inr (inr b))))) = inr (ap is_some b.was.cut.is_most, (b.was.handled, _, b.named))
 
 pub stage_succeeds : Laws → FineStageSucceeds
 stage_succeeds laws asked before after within fine =

@@ -115,8 +115,8 @@ pub record IsCutOff (stop : Option ℕ) (common : Common) (tree : Option Files) 
 
 -- ---- its report
 
--- a list that is whole: it was saved where that is asked for, and the two texts are those of a dwalk
-pub record ReportsStage (asked : StageAsked) (before after : Side) (report : Report) : Type 0 where
+-- it was whole: it walked to the end, and found the list by this count of faults
+pub record WasWhole (asked : StageAsked) (before after : Side) : Type 0 where
   pub begun : Begun asked before
   pub found : ℕ
   pub list : List Entry
@@ -124,13 +124,28 @@ pub record ReportsStage (asked : StageAsked) (before after : Side) (report : Rep
   pub finished : IsFinished asked.stop_after asked.common before.tree begun.done begun.starts begun.count found list account
   pub few : length list ≤ max_entries
   pub later : found ≤ after.count
-  pub saved : Saved (output_of asked.output list) before.tree after.tree
+
+-- it was cut: these are the done entries, and the strings that the ranks left
+pub record WasCut (asked : StageAsked) (before after : Side) : Type 0 where
+  pub begun : Begun asked before
+  pub found : ℕ
+  pub handled : ℕ
+  pub list : List Entry
+  pub left : List (List (List ℕ))
+  pub cut : IsCutOff asked.stop_after asked.common before.tree begun.done begun.starts begun.count found handled list left
+  pub few : length list ≤ max_entries
+  pub later : found ≤ after.count
+
+-- a list that is whole: it was saved where that is asked for, and the two texts are those of a dwalk
+pub record ReportsStage (asked : StageAsked) (before after : Side) (report : Report) : Type 0 where
+  pub was : WasWhole asked before after
+  pub saved : Saved (output_of asked.output was.list) before.tree after.tree
   pub notes : List Note
-  pub names : AreInOrder (failures_in [] list) notes
+  pub names : AreInOrder (failures_in [] was.list) notes
   pub printed : List Entry
-  pub order : InOrder asked.sort list printed
-  pub prints : report.out ≡ lines_of printed ++ summary_text list (length notes)
-  pub tells : report.notes ≡ notes_text asked.common account notes
+  pub order : InOrder asked.sort was.list printed
+  pub prints : report.out ≡ lines_of printed ++ summary_text was.list (length notes)
+  pub tells : report.notes ≡ notes_text asked.common was.account notes
   pub counts : report.failed ≡ length notes
 
 -- ---- why it stops
@@ -156,41 +171,21 @@ pub record StageIsTooLong (asked : StageAsked) (before after : Side) (why : Stop
 
 -- a list that is whole was not saved
 pub record StopsSavingStage (asked : StageAsked) (before after : Side) (why : Stop) : Type 0 where
-  pub begun : Begun asked before
-  pub found : ℕ
-  pub list : List Entry
-  pub account : Account
-  pub finished : IsFinished asked.stop_after asked.common before.tree begun.done begun.starts begun.count found list account
-  pub few : length list ≤ max_entries
-  pub later : found ≤ after.count
-  pub stops : StopsSaving (output_of asked.output list) (side_with before.tree found) after why
+  pub was : WasWhole asked before after
+  pub stops : StopsSaving (output_of asked.output was.list) (side_with before.tree was.found) after why
 
 -- the checkpoint of a walk that was cut was not written
 pub record StopsKeeping (asked : StageAsked) (before after : Side) (why : Stop) : Type 0 where
-  pub begun : Begun asked before
-  pub found : ℕ
-  pub handled : ℕ
-  pub list : List Entry
-  pub left : List (List (List ℕ))
-  pub cut : IsCutOff asked.stop_after asked.common before.tree begun.done begun.starts begun.count found handled list left
-  pub few : length list ≤ max_entries
-  pub later : found ≤ after.count
-  pub stops : StopsWriting asked.lists (length left) list (side_with before.tree found) after why
+  pub was : WasCut asked before after
+  pub stops : StopsWriting asked.lists (length was.left) was.list (side_with before.tree was.found) after why
 
 -- it was written: all done entries and all left strings. The line counts the strings and the paths that this stage handled
 pub record IsStopped (asked : StageAsked) (before after : Side) (why : Stop) : Type 0 where
-  pub begun : Begun asked before
-  pub found : ℕ
-  pub handled : ℕ
-  pub list : List Entry
-  pub left : List (List (List ℕ))
-  pub cut : IsCutOff asked.stop_after asked.common before.tree begun.done begun.starts begun.count found handled list left
-  pub few : length list ≤ max_entries
-  pub later : found ≤ after.count
-  pub kept : IfSome after.tree (IsKept asked.lists list left)
+  pub was : WasCut asked before after
+  pub kept : IfSome after.tree (IsKept asked.lists was.list was.left)
   -- and nothing else was, the file of the list neither
   pub rest : IfSome before.tree (λ files. IfSome after.tree (SameButAll (checkpoint_paths asked.lists asked.common.ranks) files))
-  pub named : why ≡ stop.Stopped handled (length (all_of left))
+  pub named : why ≡ stop.Stopped was.handled (length (all_of was.left))
 
 -- for want of memory, or for the first of these that comes
 abbrev pub StopsStage : StageAsked → Side → Side → Stop → Type 0
