@@ -49,15 +49,9 @@ where
     ensures lent { G.area files.new ≡ nothing_lent }
     ensures count { RoseBy 0 (G.count files.old) (G.count files.new) }
 {
-    let SyncTask {
-        common,
-        source,
-        dest,
-        delete,
-    } = task;
     let pair = Pair {
-        source,
-        target: dest,
+        source: task.source,
+        target: task.dest,
     };
     match place_pair(alloc, &pair, files) {
         Ok(()) => {}
@@ -66,8 +60,8 @@ where
         Err(PlaceError::NoDest) => return Err(Stop::NoDirectory),
         Err(PlaceError::OutOfMemory) => return Err(Stop::OutOfMemory),
     }
-    let sides = walk_pair(rt, alloc, &common, &pair, files)?;
-    let synced = sync_sides(rt, alloc, &common, &pair, &sides, delete, files)?;
+    let sides = walk_pair(rt, alloc, &task.common, &pair, files)?;
+    let synced = sync_sides(rt, alloc, &task.common, &pair, &sides, task.delete, files)?;
     let notes = failures(alloc, &pair, &sides, &synced)?;
     let report = sync_report(alloc, &synced, &notes)?;
     Ok(report)
