@@ -3,7 +3,7 @@ use crate::whole::WholeFiles;
 use files_mem::{Call, PutError};
 use outside::LinkText;
 use path_text::Path;
-use script_lines::{Trouble, number_of};
+use script_lines::{Trouble, named, number_of};
 use std::alloc::Global;
 
 /// A node that a line makes.
@@ -31,22 +31,13 @@ static KINDS: [(&str, Kind); 4] = [
     ("other", Kind::Other),
 ];
 
-fn kind_of(word: &str) -> Option<Kind> {
-    for (name, kind) in KINDS.iter() {
-        if *name == word {
-            return Some(*kind);
-        }
-    }
-    None
-}
-
 impl Making {
     /// The node that the words of a line make, if they make one.
     pub(crate) fn of(alloc: Global, words: &[String]) -> Result<Option<Making>, Trouble> {
         let [word, path, rest @ ..] = words else {
             return Ok(None);
         };
-        let Some(kind) = kind_of(word) else {
+        let Some(kind) = named(&KINDS, word) else {
             return Ok(None);
         };
         let mut made = Making {
@@ -134,10 +125,5 @@ static CALLS: [(&str, Call); 12] = [
 
 /// The call of this name.
 pub(crate) fn call_of(word: &str) -> Option<Call> {
-    for (name, call) in CALLS.iter() {
-        if *name == word {
-            return Some(*call);
-        }
-    }
-    None
+    named(&CALLS, word)
 }

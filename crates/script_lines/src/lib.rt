@@ -21,4 +21,4 @@ mod words;
 
 pub use telling::{other_lines, put_bytes, put_lines, put_value};
 pub use troubles::{Trouble, number_of, small_of};
-pub use words::{is_answer, is_remark, meant_by, number, words_of};
+pub use words::{is_answer, is_remark, meant_by, named, number, words_of};

@@ -58,3 +58,13 @@ fn push_piece(text: &mut String, piece: &str) -> Result<(), AllocError> {
 pub fn number(word: &str) -> Option<u64> {
     word.parse::<u64>().ok()
 }
+
+/// The value of this name in a table.
+pub fn named<T: Copy>(table: &[(&str, T)], name: &str) -> Option<T> {
+    for (known, value) in table {
+        if *known == name {
+            return Some(*value);
+        }
+    }
+    None
+}
