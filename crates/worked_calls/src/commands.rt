@@ -1,8 +1,9 @@
 //! Command lines, and their commands.
+use crate::telling::{tell_line, tell_value};
 use crate::tests::said;
 use flat_list::Field;
 use path_text::Path;
-use script_lines::{Trouble, put_value};
+use script_lines::Trouble;
 use std::alloc::Global;
 use tool_words::{Command, Common, Start, Tests, Want, WordsError, read_words};
 use tree_cmp::{Exist, Row, Two};
@@ -20,134 +21,105 @@ fn tell_refusal(alloc: Global, error: WordsError, told: &mut String) -> Result<(
         return Err(Trouble::Memory);
     };
     let text = format!(in alloc; "refused word {} {:?}", refusal.word, refusal.cause)?;
-    put_value(told, &text)?;
-    Ok(())
+    tell_value(&text, told)
 }
 
 fn tell_command(alloc: Global, command: &Command, told: &mut String) -> Result<(), Trouble> {
+    tell_name(alloc, command, told)?;
+    tell_common(alloc, &common_of(command), told)?;
+    tell_places(alloc, command, told)?;
+    tell_choice(alloc, command, told)?;
+    tell_list(alloc, command, told)?;
+    tell_rest(alloc, command, told)
+}
+
+fn tell_name(alloc: Global, command: &Command, told: &mut String) -> Result<(), Trouble> {
     match command {
-        Command::Walk {
-            common,
-            start,
-            sort,
-            output,
-            stop_after,
-            lists,
-        } => {
-            put(told, "walk")?;
-            tell_common(alloc, common, told)?;
-            tell_start(alloc, start, told)?;
-            tell_sort(alloc, *sort, told)?;
-            tell_file(alloc, "output", output, told)?;
-            tell_number(alloc, "stop after", *stop_after, told)?;
-            tell_file(alloc, "lists", lists, told)
-        }
-        Command::Find {
-            common,
-            start,
-            tests,
-            sort,
-            output,
-        } => {
-            put(told, "find")?;
-            tell_common(alloc, common, told)?;
-            tell_start(alloc, start, told)?;
-            tell_tests(alloc, tests, told)?;
-            tell_sort(alloc, *sort, told)?;
-            tell_file(alloc, "output", output, told)
-        }
-        _ => tell_pair(alloc, command, told),
+        Command::Walk { .. } => tell_line("walk", told),
+        Command::Find { .. } => tell_line("find", told),
+        Command::Cmp { .. } => tell_line("compare", told),
+        Command::Copy { .. } => tell_line("copy", told),
+        Command::Sync { .. } => tell_line("sync", told),
+        Command::Dup { .. } => tell_line("groups", told),
+        Command::Remove { .. } => tell_line("remove", told),
+        Command::Test { nodes, .. } => tell_line(&format!(in alloc; "test {nodes}")?, told),
     }
 }
 
-// Adds a command that has a source and a destination.
-fn tell_pair(alloc: Global, command: &Command, told: &mut String) -> Result<(), Trouble> {
+fn common_of(command: &Command) -> Common {
     match command {
-        Command::Cmp {
-            common,
-            left,
-            right,
-            wants,
-        } => {
-            put(told, "compare")?;
-            tell_common(alloc, common, told)?;
+        Command::Walk { common, .. } => *common,
+        Command::Find { common, .. } => *common,
+        Command::Cmp { common, .. } => *common,
+        Command::Copy { common, .. } => *common,
+        Command::Sync { common, .. } => *common,
+        Command::Dup { common, .. } => *common,
+        Command::Remove { common, .. } => *common,
+        Command::Test { common, .. } => *common,
+    }
+}
+
+// Adds where a command begins, and its destination.
+fn tell_places(alloc: Global, command: &Command, told: &mut String) -> Result<(), Trouble> {
+    match command {
+        Command::Walk { start, .. } => tell_start(alloc, start, told),
+        Command::Find { start, .. } => tell_start(alloc, start, told),
+        Command::Cmp { left, right, .. } => {
             tell_path(alloc, "left", left, told)?;
-            tell_path(alloc, "right", right, told)?;
-            tell_wants(alloc, wants, told)
+            tell_path(alloc, "right", right, told)
         }
-        Command::Copy {
-            common,
-            sources,
-            dest,
-            range,
-        } => {
-            put(told, "copy")?;
-            tell_common(alloc, common, told)?;
+        Command::Copy { sources, dest, .. } => {
             tell_paths(alloc, "source", sources, told)?;
-            tell_path(alloc, "dest", dest, told)?;
-            tell_number(alloc, "range", *range, told)
+            tell_path(alloc, "dest", dest, told)
         }
-        _ => tell_equal(alloc, command, told),
-    }
-}
-
-// Adds a command that makes files equal, or looks for equal ones.
-fn tell_equal(alloc: Global, command: &Command, told: &mut String) -> Result<(), Trouble> {
-    match command {
-        Command::Sync {
-            common,
-            source,
-            dest,
-            delete,
-        } => {
-            put(told, "sync")?;
-            tell_common(alloc, common, told)?;
+        Command::Sync { source, dest, .. } => {
             tell_path(alloc, "source", source, told)?;
-            tell_path(alloc, "dest", dest, told)?;
-            tell_flag("delete", *delete, told)
+            tell_path(alloc, "dest", dest, told)
         }
-        Command::Dup { common, roots } => {
-            put(told, "groups")?;
-            tell_common(alloc, common, told)?;
-            tell_paths(alloc, "root", roots, told)
-        }
-        _ => tell_other(alloc, command, told),
+        Command::Dup { roots, .. } => tell_paths(alloc, "root", roots, told),
+        Command::Remove { roots, .. } => tell_paths(alloc, "root", roots, told),
+        Command::Test { .. } => Ok(()),
     }
 }
 
-fn tell_other(alloc: Global, command: &Command, told: &mut String) -> Result<(), Trouble> {
+// Adds the tests that choose entries.
+fn tell_choice(alloc: Global, command: &Command, told: &mut String) -> Result<(), Trouble> {
     match command {
-        Command::Remove {
-            common,
-            roots,
-            tests,
-            dryrun,
-        } => {
-            put(told, "remove")?;
-            tell_common(alloc, common, told)?;
-            tell_paths(alloc, "root", roots, told)?;
-            tell_tests(alloc, tests, told)?;
-            tell_flag("dryrun", *dryrun, told)
-        }
-        Command::Test {
-            common,
-            nodes,
-            tests,
-        } => {
-            put(told, &format!(in alloc; "test {nodes}")?)?;
-            tell_common(alloc, common, told)?;
-            tell_tests(alloc, tests, told)
-        }
+        Command::Find { tests, .. } => tell_tests(alloc, tests, told),
+        Command::Remove { tests, .. } => tell_tests(alloc, tests, told),
+        Command::Test { tests, .. } => tell_tests(alloc, tests, told),
         _ => Ok(()),
     }
 }
 
-// Adds one line.
-fn put(told: &mut String, line: &str) -> Result<(), Trouble> {
-    told.push_str("| ")?;
-    told.push_str(line)?;
-    told.push('\n')?;
-    Ok(())
+// Adds the order of a list, and the file to which it is written.
+fn tell_list(alloc: Global, command: &Command, told: &mut String) -> Result<(), Trouble> {
+    let (sort, output) = match command {
+        Command::Walk { sort, output, .. } => (sort, output),
+        Command::Find { sort, output, .. } => (sort, output),
+        _ => return Ok(()),
+    };
+    tell_sort(alloc, *sort, told)?;
+    tell_file(alloc, "output", output, told)
+}
+
+// Adds the settings that only one command has.
+fn tell_rest(alloc: Global, command: &Command, told: &mut String) -> Result<(), Trouble> {
+    match command {
+        Command::Walk {
+            stop_after,
+            lists,
+            ..
+        } => {
+            tell_number(alloc, "stop after", *stop_after, told)?;
+            tell_file(alloc, "lists", lists, told)
+        }
+        Command::Cmp { wants, .. } => tell_wants(alloc, wants, told),
+        Command::Copy { range, .. } => tell_number(alloc, "range", *range, told),
+        Command::Sync { delete, .. } => tell_flag("delete", *delete, told),
+        Command::Remove { dryrun, .. } => tell_flag("dryrun", *dryrun, told),
+        _ => Ok(()),
+    }
 }
 
 /// Answers the defaults of a walk.
@@ -168,7 +140,7 @@ fn tell_going(alloc: Global, common: &Common, told: &mut String) -> Result<(), T
         "ranks {} hosts {} split {:?} seed {} width {}",
         common.ranks, common.hosts, common.split, common.seed, common.width
     )?;
-    put(told, &numbers)?;
+    tell_line(&numbers, told)?;
     tell_flag("trace", common.trace, told)?;
     tell_flag("shares", common.shares, told)?;
     tell_flag("progress", common.progress, told)
@@ -176,13 +148,13 @@ fn tell_going(alloc: Global, common: &Common, told: &mut String) -> Result<(), T
 
 fn tell_flag(name: &str, is_set: bool, told: &mut String) -> Result<(), Trouble> {
     if is_set {
-        put(told, name)?;
+        tell_line(name, told)?;
     }
     Ok(())
 }
 
 fn tell_path(alloc: Global, name: &str, path: &Path, told: &mut String) -> Result<(), Trouble> {
-    put(told, &format!(in alloc; "{name} {}", path.text())?)
+    tell_line(&format!(in alloc; "{name} {}", path.text())?, told)
 }
 
 fn tell_paths(alloc: Global, name: &str, paths: &[Path], told: &mut String) -> Result<(), Trouble> {
@@ -211,7 +183,7 @@ fn tell_number(
     told: &mut String,
 ) -> Result<(), Trouble> {
     match number {
-        Some(number) => put(told, &format!(in alloc; "{name} {number}")?),
+        Some(number) => tell_line(&format!(in alloc; "{name} {number}")?, told),
         None => Ok(()),
     }
 }
@@ -220,21 +192,21 @@ fn tell_start(alloc: Global, start: &Start, told: &mut String) -> Result<(), Tro
     match start {
         Start::Roots(roots) => tell_paths(alloc, "root", roots, told),
         Start::Input(file) => tell_path(alloc, "input", file, told),
-        Start::Restart => put(told, "restart"),
+        Start::Restart => tell_line("restart", told),
     }
 }
 
 fn tell_sort(alloc: Global, sort: Option<(Field, bool)>, told: &mut String) -> Result<(), Trouble> {
     match sort {
-        Some((field, true)) => put(told, &format!(in alloc; "sort {field:?} down")?),
-        Some((field, false)) => put(told, &format!(in alloc; "sort {field:?}")?),
+        Some((field, true)) => tell_line(&format!(in alloc; "sort {field:?} down")?, told),
+        Some((field, false)) => tell_line(&format!(in alloc; "sort {field:?}")?, told),
         None => Ok(()),
     }
 }
 
 fn tell_tests(alloc: Global, tests: &Tests, told: &mut String) -> Result<(), Trouble> {
     for test in &tests.tests {
-        put(told, &said(alloc, test)?)?;
+        tell_line(&said(alloc, test)?, told)?;
     }
     tell_paths(alloc, "newer", &tests.newer, told)
 }

@@ -1,6 +1,7 @@
 //! The cuts of files into ranges.
+use crate::telling::tell_value;
 use range_copy::ranges;
-use script_lines::{Trouble, number_of, put_value};
+use script_lines::{Trouble, number_of};
 use std::alloc::Global;
 
 // If there are more than twice as many cuts, the answer has so many from the front and from the end.
@@ -28,6 +29,5 @@ pub fn tell(alloc: Global, words: &[String], told: &mut String) -> Result<(), Tr
         }
     }
     text.push_str(&format!(in alloc; "of {}", cuts.len())?)?;
-    put_value(told, &text)?;
-    Ok(())
+    tell_value(&text, told)
 }

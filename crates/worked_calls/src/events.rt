@@ -1,8 +1,10 @@
 //! Events of ranks.
-use crate::lists::tell_text;
+ghost use Rattle.std.specs.Prelude.{◌≤◌, IfOk};
+
+use crate::telling::{tell_debug, tell_text, tell_value};
 use path_text::{Path, unescape};
 use ring_core::{Colour, Event, World, check_run, step};
-use script_lines::{Trouble, number_of, put_value, small_of};
+use script_lines::{Trouble, number_of, small_of};
 use std::alloc::Global;
 use tool_text::{Text, put_trace};
 
@@ -30,12 +32,17 @@ pub fn tell(
             tell_text(alloc, &lines, told)
         }
         (Asked::Check, [ranks, starts]) => {
-            let ranks = small_of(ranks)?;
-            tell_verdict(alloc, &events, ranks, number_of(starts)?, told)
+            let ranks = ranks_of(ranks)?;
+            match check_run(alloc, &events, ranks, number_of(starts)?) {
+                Ok(verdict) => tell_debug(alloc, &verdict, told),
+                Err(error) => tell_debug(alloc, &error, told),
+            }
         }
         (Asked::Steps, [ranks, starts]) => {
-            let ranks = small_of(ranks)?;
-            tell_steps(alloc, &events, ranks, number_of(starts)?, told)
+            let ranks = ranks_of(ranks)?;
+            let mut world = World::start(alloc, ranks, number_of(starts)?)?;
+            tell_steps(alloc, &mut world, &events, told)?;
+            tell_counts(alloc, &mut world, ranks, told)
         }
         _ => Err(Trouble::Line),
     }
@@ -161,45 +168,43 @@ fn event_of_three(name: &str, rank: u32, other: u32, count: u64) -> Result<Event
     Err(Trouble::Line)
 }
 
-fn tell_verdict(
-    alloc: Global,
-    events: &[Event],
-    ranks: u32,
-    starts: u64,
-    told: &mut String,
-) -> Result<(), Trouble> {
+// The number of ranks of a run.
+fn ranks_of(word: &str) -> Result<u32, Trouble>
+    ensures { IfOk result (λ ranks. (1 ≤ ranks) × (ranks ≤ 64)) }
+{
+    let ranks = small_of(word)?;
     if ranks == 0 || ranks > 64 {
         return Err(Trouble::Number);
     }
-    let text = match check_run(alloc, events, ranks, starts) {
-        Ok(verdict) => format!(in alloc; "{verdict:?}")?,
-        Err(error) => format!(in alloc; "{error:?}")?,
-    };
-    put_value(told, &text)?;
+    Ok(ranks)
+}
+
+// Answers each event.
+fn tell_steps(
+    alloc: Global,
+    world: &mut World,
+    events: &[Event],
+    told: &mut String,
+) -> Result<(), Trouble> {
+    for event in events {
+        match step(world, event) {
+            Ok(()) => tell_value("done", told)?,
+            Err(reason) => tell_debug(alloc, &reason, told)?,
+        }
+    }
     Ok(())
 }
 
-fn tell_steps(
+// Answers how many strings each rank has.
+fn tell_counts(
     alloc: Global,
-    events: &[Event],
+    world: &mut World,
     ranks: u32,
-    starts: u64,
     told: &mut String,
 ) -> Result<(), Trouble> {
-    if ranks == 0 || ranks > 64 {
-        return Err(Trouble::Number);
-    }
-    let mut world = World::start(alloc, ranks, starts)?;
-    for event in events {
-        let text = match step(&mut world, event) {
-            Ok(()) => format!(in alloc; "done")?,
-            Err(reason) => format!(in alloc; "{reason:?}")?,
-        };
-        put_value(told, &text)?;
-    }
     for rank in 0..ranks {
-        let count = handled_by(alloc, &mut world, rank)?;
-        put_value(told, &format!(in alloc; "rank {rank} has {count}")?)?;
+        let count = handled_by(alloc, world, rank)?;
+        tell_value(&format!(in alloc; "rank {rank} has {count}")?, told)?;
     }
     Ok(())
 }

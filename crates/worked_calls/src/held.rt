@@ -1,10 +1,10 @@
-//! The values that lines keep for later lines.
+//! The values that lines keep for later lines, and the answers.
 use flat_list::{Entry, FlatList};
 use rank_queue::{Batch, RankQueue};
 use std::alloc::{AllocError, Global};
 use tool_text::Note;
 
-/// A text, a list, the logs of ranks, notes, a queue, and the strings that it gave.
+/// A text, a list, the logs of ranks, notes, a queue, the strings that it gave, and the lines so far with their answers.
 #[derive(Drop)]
 pub struct Held {
     pub text: String,
@@ -13,6 +13,7 @@ pub struct Held {
     pub notes: Vec<Note>,
     pub queue: RankQueue,
     pub given: Batch,
+    pub told: String,
 }
 
 impl Held {
@@ -25,6 +26,7 @@ impl Held {
             notes: Vec::new(alloc),
             queue: RankQueue::make(alloc),
             given: Batch::make(alloc),
+            told: String::new(alloc),
         }
     }
 

@@ -1,11 +1,12 @@
 //! Lists: read from a list file, kept, sorted and taken apart.
 use crate::held::Held;
-use crate::tests::test_named;
+use crate::tables::{FIELDS, TESTS};
+use crate::telling::{tell_debug, tell_text, tell_value};
 use find_tests::{Test, parse_test, select};
-use flat_list::{Entry, Field, FlatList, Mark};
-use outside::{Kind, MemSink, Stat};
+use flat_list::{Entry, FlatList, Mark};
+use outside::{Kind, Stat};
 use path_text::Path;
-use script_lines::{Trouble, number_of, put_bytes, put_value, small_of};
+use script_lines::{Trouble, named, number_of, put_bytes, small_of};
 use std::alloc::Global;
 use tool_text::{Text, put_list, put_summary};
 
@@ -30,16 +31,10 @@ pub enum Asked {
 }
 
 /// Does a line, and answers it.
-pub fn tell(
-    alloc: Global,
-    asked: Asked,
-    held: &mut Held,
-    words: &[String],
-    told: &mut String,
-) -> Result<(), Trouble> {
+pub fn tell(alloc: Global, asked: Asked, held: &mut Held, words: &[String]) -> Result<(), Trouble> {
     match asked {
-        Asked::Decode => decode(alloc, held, told),
-        Asked::Again => tell_again(alloc, &held.text, told),
+        Asked::Decode => decode(alloc, held),
+        Asked::Again => tell_again(alloc, &held.text, &mut held.told),
         Asked::Add => add(alloc, &mut held.list, words),
         Asked::Rank => {
             held.found.push(files_at(alloc, words)?)?;
@@ -51,7 +46,7 @@ pub fn tell(
             held.list.sort_path()?;
             Ok(())
         }
-        _ => tell_of(alloc, asked, &held.list, words, told),
+        _ => tell_of(alloc, asked, &held.list, words, &mut held.told),
     }
 }
 
@@ -88,38 +83,40 @@ fn tell_of(
     }
 }
 
-/// Adds the lines of a text of at most 64 KiB.
-pub fn tell_text(alloc: Global, text: &Text, told: &mut String) -> Result<(), Trouble> {
-    let mut sink = MemSink::limited(alloc, 65536)?;
-    if text.put(&mut sink).is_err() {
-        return Err(Trouble::Memory);
-    }
-    put_bytes(told, '|', sink.text())?;
+// The paths of a list, each in a line.
+fn tell_paths(list: &FlatList, told: &mut String) -> Result<(), Trouble> {
+    put_paths(list, "| ", "\n", told)
+}
+
+// The paths of a list in one line.
+fn tell_row(list: &FlatList, told: &mut String) -> Result<(), Trouble> {
+    told.push('|')?;
+    put_paths(list, " ", "", told)?;
+    told.push('\n')?;
     Ok(())
 }
 
-fn tell_paths(list: &FlatList, told: &mut String) -> Result<(), Trouble> {
+fn put_paths(list: &FlatList, before: &str, after: &str, told: &mut String) -> Result<(), Trouble> {
     let mut cursor = list.cursor()?;
     for _ in 0..list.len() {
         if cursor.advance()? {
-            told.push_str("| ")?;
+            told.push_str(before)?;
             told.push_str(cursor.entry().path.text())?;
-            told.push('\n')?;
+            told.push_str(after)?;
         }
     }
     Ok(())
 }
 
-fn decode(alloc: Global, held: &mut Held, told: &mut String) -> Result<(), Trouble> {
-    let text = match FlatList::decode(alloc, held.text.as_bytes()) {
+fn decode(alloc: Global, held: &mut Held) -> Result<(), Trouble> {
+    match FlatList::decode(alloc, held.text.as_bytes()) {
         Ok(list) => {
+            let text = format!(in alloc; "entries {}", list.len())?;
             held.list = list;
-            format!(in alloc; "entries {}", held.list.len())?
+            tell_value(&text, &mut held.told)
         }
-        Err(error) => format!(in alloc; "{error:?}")?,
-    };
-    put_value(told, &text)?;
-    Ok(())
+        Err(error) => tell_debug(alloc, &error, &mut held.told),
+    }
 }
 
 fn tell_again(alloc: Global, text: &str, told: &mut String) -> Result<(), Trouble> {
@@ -168,14 +165,6 @@ fn merge(alloc: Global, held: &mut Held) -> Result<(), Trouble> {
     Ok(())
 }
 
-static FIELDS: [(&str, Field); 5] = [
-    ("path", Field::Path),
-    ("name", Field::Name),
-    ("size", Field::Size),
-    ("mtime", Field::Mtime),
-    ("kind", Field::Kind),
-];
-
 fn sort(list: &mut FlatList, words: &[String]) -> Result<(), Trouble> {
     let [word] = words else {
         return Err(Trouble::Line);
@@ -184,13 +173,11 @@ fn sort(list: &mut FlatList, words: &[String]) -> Result<(), Trouble> {
         Some(name) => (name, true),
         None => (word.as_str(), false),
     };
-    for (known, field) in FIELDS.iter() {
-        if *known == name {
-            list.sort_by(*field, down)?;
-            return Ok(());
-        }
-    }
-    Err(Trouble::Line)
+    let Some(field) = named(&FIELDS, name) else {
+        return Err(Trouble::Line);
+    };
+    list.sort_by(field, down)?;
+    Ok(())
 }
 
 fn tell_levels(alloc: Global, list: &FlatList, told: &mut String) -> Result<(), Trouble> {
@@ -214,20 +201,6 @@ fn tell_spread(list: &FlatList, pieces: u32, told: &mut String) -> Result<(), Tr
     Ok(())
 }
 
-// The paths of a list in one line.
-fn tell_row(list: &FlatList, told: &mut String) -> Result<(), Trouble> {
-    told.push('|')?;
-    let mut cursor = list.cursor()?;
-    for _ in 0..list.len() {
-        if cursor.advance()? {
-            told.push(' ')?;
-            told.push_str(cursor.entry().path.text())?;
-        }
-    }
-    told.push('\n')?;
-    Ok(())
-}
-
 fn tell_page(list: &FlatList, page: u64, told: &mut String) -> Result<(), Trouble> {
     if page > 0 || list.is_empty() {
         return Err(Trouble::Number);
@@ -242,12 +215,10 @@ fn tell_place(
     path: &str,
     told: &mut String,
 ) -> Result<(), Trouble> {
-    let text = match list.place_of(&Path::parse(alloc, path)?) {
-        Some(place) => format!(in alloc; "place {place}")?,
-        None => format!(in alloc; "nowhere")?,
-    };
-    put_value(told, &text)?;
-    Ok(())
+    match list.place_of(&Path::parse(alloc, path)?) {
+        Some(place) => tell_value(&format!(in alloc; "place {place}")?, told),
+        None => tell_value("nowhere", told),
+    }
 }
 
 // The tests of pairs of a name and a value.
@@ -269,7 +240,7 @@ fn test_of(alloc: Global, name: &str, value: &str) -> Result<Test, Trouble> {
         }
         return Ok(Test::Newer(Some(number_of(value)?)));
     }
-    let Some(name) = test_named(name) else {
+    let Some(name) = named(&TESTS, name) else {
         return Err(Trouble::Line);
     };
     parse_test(alloc, name, value).map_err(|_| Trouble::Line)

@@ -56,6 +56,8 @@ mod notes;
 mod pages;
 mod paths;
 mod queues;
+mod tables;
+mod telling;
 mod tests;
 
 use std::io;

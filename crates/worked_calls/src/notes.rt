@@ -1,9 +1,10 @@
 //! Notes, and the lines beside them.
 use crate::held::Held;
-use crate::lists::tell_text;
+use crate::tables::WHYS;
+use crate::telling::tell_text;
 use circle_run::Share;
 use path_text::Path;
-use script_lines::{Trouble, number_of};
+use script_lines::{Trouble, named, number_of};
 use std::alloc::Global;
 use std::mem;
 use tool_text::{
@@ -24,13 +25,7 @@ pub enum Asked {
 }
 
 /// Does a line, and answers it.
-pub fn tell(
-    alloc: Global,
-    asked: Asked,
-    held: &mut Held,
-    words: &[String],
-    told: &mut String,
-) -> Result<(), Trouble> {
+pub fn tell(alloc: Global, asked: Asked, held: &mut Held, words: &[String]) -> Result<(), Trouble> {
     let mut text = Text::make(alloc);
     match (asked, words) {
         (Asked::Marks, []) => held.notes = notes_of(alloc, &held.list)?,
@@ -47,7 +42,7 @@ pub fn tell(
         (Asked::Shares, _) => put_shares(&mut text, &shares_of(alloc, words)?)?,
         _ => return Err(Trouble::Line),
     }
-    tell_text(alloc, &text, told)
+    tell_text(alloc, &text, &mut held.told)
 }
 
 fn numbers_of(alloc: Global, words: &[String]) -> Result<Vec<u64>, Trouble> {
@@ -86,22 +81,6 @@ fn note_of(alloc: Global, why: &str, path: &str, dest: bool) -> Result<Note, Tro
     })
 }
 
-static WHYS: [(&str, Why); 13] = [
-    ("Gone", Why::Gone),
-    ("FailedStat", Why::FailedStat),
-    ("FailedNewer", Why::FailedNewer),
-    ("FailedList", Why::FailedList),
-    ("Changed", Why::Changed),
-    ("FailedRead", Why::FailedRead),
-    ("FailedCopy", Why::FailedCopy),
-    ("Conflict", Why::Conflict),
-    ("Skipped", Why::Skipped),
-    ("Parent", Why::Parent),
-    ("LongTarget", Why::LongTarget),
-    ("FailedRemove", Why::FailedRemove),
-    ("NotEmpty", Why::NotEmpty),
-];
-
 fn why_of(word: &str) -> Result<Why, Trouble> {
     if let Some(number) = word.strip_prefix("Unnamed=") {
         return Ok(Why::Unnamed(number_of(number)?));
@@ -109,10 +88,5 @@ fn why_of(word: &str) -> Result<Why, Trouble> {
     if let Some(number) = word.strip_prefix("TooLong=") {
         return Ok(Why::TooLong(number_of(number)?));
     }
-    for (name, why) in WHYS.iter() {
-        if *name == word {
-            return Ok(*why);
-        }
-    }
-    Err(Trouble::Line)
+    named(&WHYS, word).ok_or(Trouble::Line)
 }

@@ -1,8 +1,8 @@
 //! Paths, names and the texts of links.
-use crate::tests::yes_or_no;
+use crate::telling::{tell_debug, tell_truth, tell_value};
 use outside::LinkText;
 use path_text::{Path, escape, put_escaped, put_escaped_bytes, unescape, valid_name};
-use script_lines::{Trouble, number_of, put_bytes, put_value};
+use script_lines::{Trouble, number_of, put_bytes};
 use std::alloc::Global;
 use std::cmp::Ordering;
 
@@ -45,28 +45,19 @@ pub fn tell(
         (Asked::Ascend, _) => tell_truth(ascends(alloc, words)?, told),
         (Asked::Unescape, [text]) => match unescape(alloc, text) {
             Ok(path) => tell_path(alloc, &path, told),
-            Err(error) => tell_value(&format!(in alloc; "{error:?}")?, told),
+            Err(error) => tell_debug(alloc, &error, told),
         },
         (Asked::Long, [piece, count]) => tell_long(alloc, piece, number_of(count)?, told),
         (Asked::Link, [text]) => match LinkText::parse(alloc, text) {
             Ok(link) => tell_link(alloc, &link, told),
-            Err(error) => tell_value(&format!(in alloc; "{error:?}")?, told),
+            Err(error) => tell_debug(alloc, &error, told),
         },
         (Asked::UnescapeLink, [text]) => match LinkText::unescape(alloc, text) {
             Ok(link) => tell_link(alloc, &link, told),
-            Err(error) => tell_value(&format!(in alloc; "{error:?}")?, told),
+            Err(error) => tell_debug(alloc, &error, told),
         },
         _ => Err(Trouble::Line),
     }
-}
-
-fn tell_value(value: &str, told: &mut String) -> Result<(), Trouble> {
-    put_value(told, value)?;
-    Ok(())
-}
-
-fn tell_truth(holds: bool, told: &mut String) -> Result<(), Trouble> {
-    tell_value(yes_or_no(holds), told)
 }
 
 // A path, escaped.
@@ -92,7 +83,7 @@ fn tell_parsed(alloc: Global, text: &str, told: &mut String) -> Result<(), Troub
             tell_path(alloc, &copy, told)?;
             tell_names(alloc, &path, told)
         }
-        Err(error) => tell_value(&format!(in alloc; "{error:?}")?, told),
+        Err(error) => tell_debug(alloc, &error, told),
     }
 }
 
@@ -127,7 +118,7 @@ fn tell_long(alloc: Global, piece: &str, count: u64, told: &mut String) -> Resul
     }
     match Path::parse(alloc, &text) {
         Ok(path) => tell_value(&format!(in alloc; "bytes {}", path.text().len())?, told),
-        Err(error) => tell_value(&format!(in alloc; "{error:?}")?, told),
+        Err(error) => tell_debug(alloc, &error, told),
     }
 }
 
@@ -138,7 +129,7 @@ fn tell_joined(alloc: Global, path: &str, name: &str, told: &mut String) -> Resu
     }
     match path.join(name) {
         Ok(child) => tell_path(alloc, &child, told),
-        Err(error) => tell_value(&format!(in alloc; "{error:?}")?, told),
+        Err(error) => tell_debug(alloc, &error, told),
     }
 }
 
@@ -152,7 +143,7 @@ fn tell_below(alloc: Global, path: &str, top: &str, told: &mut String) -> Result
     tell_path(alloc, &rest, told)?;
     match Path::graft(&top, &rest) {
         Ok(back) => tell_path(alloc, &back, told),
-        Err(error) => tell_value(&format!(in alloc; "{error:?}")?, told),
+        Err(error) => tell_debug(alloc, &error, told),
     }
 }
 

@@ -1,10 +1,11 @@
 //! Queues of ranks, and their random draws.
 use crate::held::Held;
+use crate::telling::{tell_number, tell_paths, tell_value};
 use path_text::Path;
 use rand_core::utils::NextWord;
 use rand_pcg::Pcg32;
 use rank_queue::{Batch, RankQueue, equal_share, generator, random_share, victim};
-use script_lines::{Trouble, number_of, put_value, small_of};
+use script_lines::{Trouble, number_of, small_of};
 use std::alloc::Global;
 use std::mem;
 
@@ -23,13 +24,7 @@ pub enum Asked {
 }
 
 /// Does a line, and answers it.
-pub fn tell(
-    alloc: Global,
-    asked: Asked,
-    held: &mut Held,
-    words: &[String],
-    told: &mut String,
-) -> Result<(), Trouble> {
+pub fn tell(alloc: Global, asked: Asked, held: &mut Held, words: &[String]) -> Result<(), Trouble> {
     match (asked, words) {
         (Asked::Push, _) => {
             let mut batch = Batch::make(alloc);
@@ -39,7 +34,7 @@ pub fn tell(
             held.queue.push_all(&mut batch)?;
             Ok(())
         }
-        (Asked::Give, [count]) => give(alloc, held, number_of(count)?, told),
+        (Asked::Give, [count]) => give(alloc, held, number_of(count)?),
         (Asked::Back, []) => {
             held.queue.push_all(&mut held.given)?;
             Ok(())
@@ -48,23 +43,23 @@ pub fn tell(
             held.given.clear();
             Ok(())
         }
-        (Asked::Take, []) => take(&mut held.queue, told),
-        (Asked::Waiting, []) => put(alloc, held.queue.len() as u64, told),
+        (Asked::Take, []) => take(&mut held.queue, &mut held.told),
+        (Asked::Waiting, []) => tell_number(alloc, held.queue.len() as u64, &mut held.told),
         (Asked::Queued, []) => {
             let queue = mem::replace(&mut held.queue, RankQueue::make(alloc));
-            tell_paths(&queue.into_list(), told)
+            tell_paths(&queue.into_list(), &mut held.told)
         }
         (Asked::Share, [queued, asked]) => {
             let (queued, asked) = (number_of(queued)?, number_of(asked)?);
             if asked == u64::MAX {
                 return Err(Trouble::Number);
             }
-            put(alloc, equal_share(queued, asked), told)
+            tell_number(alloc, equal_share(queued, asked), &mut held.told)
         }
         (Asked::Lots, [seed, rank, draws @ ..]) => {
             let mut from = generator(number_of(seed)?, small_of(rank)?);
             for draw in draws {
-                put(alloc, drawn(&mut from, draw)?, told)?;
+                tell_number(alloc, drawn(&mut from, draw)?, &mut held.told)?;
             }
             Ok(())
         }
@@ -72,22 +67,8 @@ pub fn tell(
     }
 }
 
-fn put(alloc: Global, number: u64, told: &mut String) -> Result<(), Trouble> {
-    put_value(told, &format!(in alloc; "{number}")?)?;
-    Ok(())
-}
-
-fn tell_paths(paths: &[Path], told: &mut String) -> Result<(), Trouble> {
-    for path in paths {
-        told.push_str("| ")?;
-        told.push_str(path.text())?;
-        told.push('\n')?;
-    }
-    Ok(())
-}
-
 // Gives so many of the oldest strings away, and answers how many are left.
-fn give(alloc: Global, held: &mut Held, count: u64, told: &mut String) -> Result<(), Trouble> {
+fn give(alloc: Global, held: &mut Held, count: u64) -> Result<(), Trouble> {
     let Ok(count) = usize::try_from(count) else {
         return Err(Trouble::Number);
     };
@@ -95,17 +76,16 @@ fn give(alloc: Global, held: &mut Held, count: u64, told: &mut String) -> Result
         return Err(Trouble::Number);
     }
     held.given = held.queue.give(count)?;
-    put(alloc, held.given.len() as u64, told)?;
-    put(alloc, held.queue.len() as u64, told)
+    tell_number(alloc, held.given.len() as u64, &mut held.told)?;
+    tell_number(alloc, held.queue.len() as u64, &mut held.told)
 }
 
 // Takes the newest string.
 fn take(queue: &mut RankQueue, told: &mut String) -> Result<(), Trouble> {
     match queue.take() {
-        Some(path) => put_value(told, path.text())?,
-        None => put_value(told, "nothing")?,
+        Some(path) => tell_value(path.text(), told),
+        None => tell_value("nothing", told),
     }
-    Ok(())
 }
 
 // The result of one draw: a word, a share of so many, or the rank that a rank of so many asks.

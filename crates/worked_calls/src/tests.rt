@@ -1,27 +1,10 @@
 //! Globs, and the tests and expressions of options.
+use crate::tables::TESTS;
+use crate::telling::{tell_debug, tell_truth, tell_value};
 use find_tests::{Test, TestName, glob_match, parse_test};
-use script_lines::{Trouble, put_value};
+use script_lines::{Trouble, named};
 use std::alloc::Global;
 use tree_cmp::parse_expr;
-
-static NAMES: [(&str, TestName); 6] = [
-    ("name", TestName::Name),
-    ("path", TestName::Path),
-    ("type", TestName::Kind),
-    ("size", TestName::Size),
-    ("mtime", TestName::Days),
-    ("mmin", TestName::Minutes),
-];
-
-/// The test of this name.
-pub fn test_named(word: &str) -> Option<TestName> {
-    for (name, test) in NAMES.iter() {
-        if *name == word {
-            return Some(*test);
-        }
-    }
-    None
-}
 
 /// Answers whether a text matches a pattern.
 pub fn tell_match(alloc: Global, words: &[String], told: &mut String) -> Result<(), Trouble> {
@@ -29,15 +12,9 @@ pub fn tell_match(alloc: Global, words: &[String], told: &mut String) -> Result<
         return Err(Trouble::Line);
     };
     match parse_test(alloc, TestName::Name, pattern) {
-        Ok(Test::Name(glob)) => put_value(told, yes_or_no(glob_match(&glob, text)))?,
-        _ => return Err(Trouble::Memory),
+        Ok(Test::Name(glob)) => tell_truth(glob_match(&glob, text), told),
+        _ => Err(Trouble::Memory),
     }
-    Ok(())
-}
-
-/// The word for a truth value.
-pub fn yes_or_no(holds: bool) -> &'static str {
-    if holds { "true" } else { "false" }
 }
 
 /// Answers the test of a value, or why it is not valid.
@@ -45,15 +22,13 @@ pub fn tell_test(alloc: Global, words: &[String], told: &mut String) -> Result<(
     let [name, value] = words else {
         return Err(Trouble::Line);
     };
-    let Some(name) = test_named(name) else {
+    let Some(name) = named(&TESTS, name) else {
         return Err(Trouble::Line);
     };
-    let text = match parse_test(alloc, name, value) {
-        Ok(test) => said(alloc, &test)?,
-        Err(error) => format!(in alloc; "{error:?}")?,
-    };
-    put_value(told, &text)?;
-    Ok(())
+    match parse_test(alloc, name, value) {
+        Ok(test) => tell_value(&said(alloc, &test)?, told),
+        Err(error) => tell_debug(alloc, &error, told),
+    }
 }
 
 /// The text of a test: of a glob, whether it matches a log.
@@ -78,8 +53,7 @@ pub fn tell_expr(alloc: Global, words: &[String], told: &mut String) -> Result<(
         return Err(Trouble::Line);
     };
     match parse_expr(alloc, text) {
-        Ok(_) => put_value(told, "an expression")?,
-        Err(error) => put_value(told, &format!(in alloc; "{error:?}")?)?,
+        Ok(_) => tell_value("an expression", told),
+        Err(error) => tell_debug(alloc, &error, told),
     }
-    Ok(())
 }
