@@ -199,10 +199,10 @@ answered_one b s s1 s' k to S serve A =
     let sums = served_fewer v.serves to serve in
     record {
       table = A.table ∙ F.table ∙ S.table;
-      number = ap (λ (x : View). x.own.number) A.view ∙ A.same_number ∙ S.number ∙ sym (A.number ∙ F.number);
+      number = ap (λ (x : View). x.own.number) A.view ∙ A.same_number ∙ S.number ∙ sym (A.number ∙ F.same.0);
       sized = ap (λ (x : View). x.own.n) A.view ∙ A.same_size ∙ S.sized;
-      n = A.size ∙ F.n ∙ S.n;
-      inside = subst (λ (j : ℕ). j < b.n) (sym (A.number ∙ F.number)) S.inside;
+      n = A.size ∙ F.same.1 ∙ S.n;
+      inside = subst (λ (j : ℕ). j < b.n) (sym (A.number ∙ F.same.0)) S.inside;
       live = ap (λ (x : View). x.live) A.view ∙ ap (λ (x : View). x.live) F.view ∙ S.live;
       alone = ap (λ (x : View). x.kept) A.view ∙ ap (λ (x : View). x.kept) F.view ∙ S.alone;
       wide = ap (λ (x : View). length x.own.serves) A.view ∙ ap length A.serves_less ∙ length-set v.serves to false ∙ S.wide;

@@ -47,7 +47,7 @@ pub use Rattle.post_board.specs.BoardSteps.{RestEmptyTells, RestTells, RestartTe
 pub use Rattle.post_board.specs.BoardSteps.{after_conclude, after_fetch, after_look, after_pass, after_post, after_refusing, after_rest, after_restart}
 pub use Rattle.post_board.specs.BoardSteps.{after_taking, front, heard_at, knowing, knows, learn, noted}
 pub use Rattle.post_board.specs.BoardTurns.{HaltTurns, IsNone, MailboxTurns, RingTurns}
-pub use Rattle.post_board.specs.BoardWork.{Finds, Fronted}
+pub use Rattle.post_board.specs.BoardWork.{Finds, Fronted, SameFields}
 pub use Rattle.post_board.specs.Calls.{AllDone, AllEven, Halters, NoneAsks, NoneOnTheWay}
 pub use Rattle.post_board.specs.Deeds.{Acts, Deed, Late, LateKeepsSound, Legal, LegalLate, ask, conclude, event_of, give, halt, pass, refuse, restart, see_over}
 pub use Rattle.post_board.specs.Deeds.{stop, take, take_none, told_after, told_late, withdraw}

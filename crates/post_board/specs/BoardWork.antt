@@ -10,8 +10,8 @@ use Rattle.ring_core.specs.declared.states.Token.TheVariants.{At, Over}
 use Rattle.post_board.specs.declared.answers.Ring.{Ring}
 use Rattle.post_board.specs.declared.answers.Ring.TheVariants.{Elsewhere, Here, Over as HeardOver, Halted}
 use Rattle.post_board.specs.BoardRule.{serves}
-use Rattle.post_board.specs.Words.{asking, serving, full, emptied, sign, token_read, has_bit}
-use Rattle.post_board.specs.BoardSteps.{SeatState, Going, noted, knowing}
+use Rattle.post_board.specs.Words.{asking, serving, full, emptied, sign, word_of, token_read, has_bit}
+use Rattle.post_board.specs.BoardSteps.{SeatState, Going, noted, knows, knowing, after_taking}
 use Rattle.post_board.specs.declared.board_answers.Reply.{Reply}
 use Rattle.post_board.specs.declared.board_answers.Reply.TheVariants.{Waiting, Full, Refused, Withdrawn}
 use Rattle.post_board.specs.declared.board_views.Known.{Known}
@@ -26,6 +26,14 @@ pub record Mine (b : Board) (id : TableId) (m : SeatState) (me : ℕ) : Type 0 w
   pub sized : m.0.own.n ≡ b.n
   pub inside : me < b.n
   pub going : Going m
+
+-- the rank me took up the request of r: it knows that it serves r, and has the slot of r
+abbrev pub TookUp : ℕ → ℕ → SeatState → SeatState → Type 0
+TookUp me r m m' = (serves m.0.own r ≡ false) × (m' ≡ (knows m.0 (after_taking m.0.own r (r + 1) (word_of (asking me))), (r, None) ∷ m.1))
+
+-- the rank me looked at the mailbox of r, which asks another rank or none
+abbrev pub TookNone : ℕ → ℕ → SeatState → SeatState → Type 0
+TookNone me r m m' = (found : ℕ) × (found ≢ word_of (asking me)) × (m' ≡ knowing m (noted m.0.own (r + 1) found found))
 
 -- the meaning of the token in the ring word for the rank me
 abbrev pub ring_read : Token → ℕ → Ring
@@ -77,17 +85,22 @@ pub record Finds (n me v : ℕ) (m : SeatState) (reply : Reply) (m' : SeatState)
   pub replied : Replied v reply stops word
   pub after : m' ≡ knowing m (after_finding n me v m.0.own reply stops word)
 
+-- the fields of a seat beside its words and slots stay
+abbrev pub SameFields : BoardSeat → BoardSeat → Type 0
+SameFields s s' =
+    (s'.number ≡ s.number)
+    × (s'.n ≡ s.n)
+    × (s'.colour ≡ s.colour)
+    × (s'.here ≡ s.here)
+    × (s'.asked ≡ s.asked)
+    × (s'.ended ≡ s.ended)
+
 -- the slot of a rank that is served is in front, and no longer in the list
 pub record Fronted (s : BoardSeat) (to : ℕ) (s' : BoardSeat) : Type 0 where
   pub table : s'.seat.table_id ≡ s.seat.table_id
   pub view : s'.seat.me.0 ≡ s.seat.me.0
   pub slots : s'.seat.me.1 ≡ (to, None) ∷ map (λ r. (r, None)) s'.held.items
-  pub number : s'.number ≡ s.number
-  pub n : s'.n ≡ s.n
-  pub colour : s'.colour ≡ s.colour
-  pub here : s'.here ≡ s.here
-  pub asked : s'.asked ≡ s.asked
-  pub ended : s'.ended ≡ s.ended
+  pub same : SameFields s s'
   pub room : deque_capacity s'.held ≡ deque_capacity s.held
   pub count : length s'.held.items + 1 ≡ length s.held.items
   pub others : (r : ℕ) → r ≢ to → serves s.seat.me.0.own r ≡ true → Contains s'.held.items r

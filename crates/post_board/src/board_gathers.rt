@@ -1,14 +1,29 @@
 //! Gathering the seats.
 ghost use Rattle.std.specs.Prelude.{◌≡◌, ◌⊎◌, ◌+◌, ◌<◌, [], ◌∷◌, All, true};
-ghost use Rattle.post_board.specs.BoardRule.{both};
+ghost use Rattle.post_board.specs.BoardRule.{both, spent};
 ghost use Rattle.post_board.specs.BoardSeats.{first_ended};
-ghost use Rattle.post_board.specs.BoardSteps.{Squares, Halters};
+ghost use Rattle.post_board.specs.BoardSteps.{LastLookTells, Squares, Halters};
 
-use crate::board_rules::{Gather, Settle};
 use crate::board_views::View;
 use crate::boards::{Board, BoardSeat};
-use atomic_table::Seat;
+use atomic_table::{Join, Play, Seat};
 use rank_queue::Batch;
+
+/// A seat takes another one in.
+pub struct Gather;
+
+impl Join<View> for Gather {
+    ghost both = { both };
+
+    ghost spent = { spent };
+}
+
+/// The last look, of a seat that took all others in.
+pub struct Settle;
+
+impl Play<Option<Batch>, View> for Settle {
+    ghost then = { LastLookTells };
+}
 
 impl BoardSeat {
     /// The parts that a gathering needs: the seat of its words and, once rank 0 has come, whether that rank saw the end.
@@ -36,9 +51,8 @@ impl Board {
         seat: &mut Seat<Option<Batch>, View>,
         other: Seat<Option<Batch>, View>,
     )
-        requires fits { (seat.old.table_id ≡ self.now.table.shared.table_id) × (other.table_id ≡ self.now.table.shared.table_id) }
-        requires live { (seat.old.me.0.live ≡ true) × (other.me.0.live ≡ true) }
-        requires empty { other.me.1 ≡ [] }
+        requires mine { (seat.old.table_id ≡ self.now.table.shared.table_id) × (seat.old.me.0.live ≡ true) }
+        requires theirs { (other.table_id ≡ self.now.table.shared.table_id) × (other.me.0.live ≡ true) × (other.me.1 ≡ []) }
         ensures table { seat.new.table_id ≡ seat.old.table_id }
         ensures both { seat.new.me ≡ (both seat.old.me.0 other.me.0, seat.old.me.1) }
     {

@@ -1,11 +1,12 @@
 //! The rule of a board's table, and each kind of step with the facts that it gives the call that makes it. They have no values.
-ghost use Rattle.post_board.specs.BoardRule.{Rule, opened, dealing, dealt_out, both, spent};
+//! The steps of a gathering are in `src/board_gathers.rt`.
+ghost use Rattle.post_board.specs.BoardRule.{Rule, opened, dealing, dealt_out};
 ghost use Rattle.post_board.specs.BoardSteps.{AskTells, LookTells, TakeUpTells, ScanTells, GiveTells, RefuseTells, FetchTells, RestTells};
-ghost use Rattle.post_board.specs.BoardSteps.{RestEmptyTells, RingTells, PassTells, RestartTells, ConcludeTells, LastLookTells};
+ghost use Rattle.post_board.specs.BoardSteps.{RestEmptyTells, RingTells, PassTells, RestartTells, ConcludeTells};
 ghost use Rattle.post_board.specs.LateSteps.{SetHaltTells, LoadHaltTells, StopTells, LoadStopsTells, WithdrawTells};
 
 use crate::board_views::View;
-use atomic_table::{Join, Play, Split, TableRule};
+use atomic_table::{Play, Split, TableRule};
 use rank_queue::Batch;
 
 /// The rule that holds between any two steps: `specs/BoardRule.antt`.
@@ -29,6 +30,13 @@ pub struct Look;
 
 impl Play<Option<Batch>, View> for Look {
     ghost then = { LookTells };
+}
+
+/// A rank looks at the mailbox of another one.
+pub struct Scan;
+
+impl Play<Option<Batch>, View> for Scan {
+    ghost then = { ScanTells };
 }
 
 /// A rank takes up a request, if the mailbox of the other rank asks it.
@@ -136,13 +144,6 @@ impl Play<Option<Batch>, View> for Withdraw {
     ghost then = { WithdrawTells };
 }
 
-/// The last look, of a seat that took all others in.
-pub struct Settle;
-
-impl Play<Option<Batch>, View> for Settle {
-    ghost then = { LastLookTells };
-}
-
 /// The first seat makes the next one.
 pub struct Deal;
 
@@ -150,20 +151,4 @@ impl Split<View> for Deal {
     ghost left = { dealing };
 
     ghost right = { dealt_out };
-}
-
-/// A seat takes another one in.
-pub struct Gather;
-
-impl Join<View> for Gather {
-    ghost both = { both };
-
-    ghost spent = { spent };
-}
-
-/// A rank looks at the mailbox of another one.
-pub struct Scan;
-
-impl Play<Option<Batch>, View> for Scan {
-    ghost then = { ScanTells };
 }

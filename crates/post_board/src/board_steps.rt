@@ -12,10 +12,10 @@ ghost use Rattle.ring_core.specs.declared.states.Token.TheVariants.{At, Over};
 ghost use Rattle.post_board.specs.Shown.{Strings};
 ghost use Rattle.post_board.specs.Words.{sign, resting, asking, serving, full, fetching, emptied, word_of, token_read, word_of_token, has_bit as has_bit_of};
 ghost use Rattle.post_board.specs.BoardRule.{serves, OwnFits};
-ghost use Rattle.post_board.specs.BoardSteps.{SeatState, noted, knows, knowing, after_ask, after_look, after_taking, front, after_post};
+ghost use Rattle.post_board.specs.BoardSteps.{SeatState, noted, knows, knowing, after_ask, after_look, front, after_post};
 ghost use Rattle.post_board.specs.BoardSteps.{after_refusing, after_fetch, after_rest, heard_at, after_pass, after_restart, after_conclude};
 ghost use Rattle.post_board.specs.LateSteps.{after_halt, halt_seen, after_stop, after_stops};
-ghost use Rattle.post_board.specs.BoardWork.{Mine};
+ghost use Rattle.post_board.specs.BoardWork.{Mine, TookUp, TookNone};
 ghost use Rattle.post_board.specs.declared.board_views.OwnMailbox.TheVariants.{Resting, Open, Left, Filled, Emptied, Getting};
 
 use crate::board_rules::{
@@ -59,10 +59,8 @@ impl Board {
         requires mine { Mine self.now seat.old.table_id seat.old.me me }
         requires other { (r < self.now.n) × (r ≢ me) }
         ensures table { seat.new.table_id ≡ seat.old.table_id }
-        ensures hit { result ≡ true → (serves seat.old.me.0.own r ≡ false)
-            × (seat.new.me ≡ (knows seat.old.me.0 (after_taking seat.old.me.0.own r (r + 1) (word_of (asking me))), (r, None) ∷ seat.old.me.1)) }
-        ensures miss { result ≡ false → (found : ℕ) × (found ≢ word_of (asking me))
-            × (seat.new.me ≡ knowing seat.old.me (noted seat.old.me.0.own (r + 1) found found)) }
+        ensures hit { result ≡ true → TookUp me r seat.old.me seat.new.me }
+        ensures miss { result ≡ false → TookNone me r seat.old.me seat.new.me }
     {
         let asks = 8 * (me as u64) + 1;
         let word = r as usize + 1;
@@ -90,10 +88,8 @@ impl Board {
         requires mine { Mine self.now seat.old.table_id seat.old.me me }
         requires other { (r < self.now.n) × (r ≢ me) }
         ensures table { seat.new.table_id ≡ seat.old.table_id }
-        ensures hit { result ≡ true → (serves seat.old.me.0.own r ≡ false)
-            × (seat.new.me ≡ (knows seat.old.me.0 (after_taking seat.old.me.0.own r (r + 1) (word_of (asking me))), (r, None) ∷ seat.old.me.1)) }
-        ensures miss { result ≡ false → (found : ℕ) × (found ≢ word_of (asking me))
-            × (seat.new.me ≡ knowing seat.old.me (noted seat.old.me.0.own (r + 1) found found)) }
+        ensures hit { result ≡ true → TookUp me r seat.old.me seat.new.me }
+        ensures miss { result ≡ false → TookNone me r seat.old.me seat.new.me }
     {
         let found = self.scan_step(seat, me, r);
         if found != 8 * (me as u64) + 1 {

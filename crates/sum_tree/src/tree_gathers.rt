@@ -1,13 +1,28 @@
 //! Gathering the seats.
 ghost use Rattle.std.specs.Prelude.{◌≡◌, ◌<◌, [], true};
-ghost use Rattle.sum_tree.specs.TreeRule.{both};
-ghost use Rattle.sum_tree.specs.TreeSteps.{Totals};
+ghost use Rattle.sum_tree.specs.TreeRule.{both, spent};
+ghost use Rattle.sum_tree.specs.TreeSteps.{LastLookTells, Totals};
 ghost use Rattle.sum_tree.specs.TreeSeats.{first_answer};
 
 use crate::sum_trees::{SumSeat, SumTree};
-use crate::tree_rules::{Gather, LastLook};
 use crate::tree_views::View;
-use atomic_table::Seat;
+use atomic_table::{Join, Play, Seat};
+
+/// A seat takes another one in.
+pub struct Gather;
+
+impl Join<View> for Gather {
+    ghost both = { both };
+
+    ghost spent = { spent };
+}
+
+/// The last look, of a seat that took all others in.
+pub struct LastLook;
+
+impl Play<(), View> for LastLook {
+    ghost then = { LastLookTells };
+}
 
 impl SumSeat {
     /// The parts that a gathering needs: the seat of its words and, once rank 0 has come, the answer of that rank.
@@ -34,10 +49,9 @@ impl SumSeat {
 impl SumTree {
     /// Takes another seat in.
     pub(crate) fn join_step(&self, seat: &mut Seat<(), View>, other: Seat<(), View>)
-        requires fits { (seat.old.table_id ≡ self.now.table.shared.table_id) × (other.table_id ≡ self.now.table.shared.table_id) }
+        requires mine { (seat.old.table_id ≡ self.now.table.shared.table_id) × (seat.old.me.0.live ≡ true) }
+        requires theirs { (other.table_id ≡ self.now.table.shared.table_id) × (other.me.0.live ≡ true) × (other.me.1 ≡ []) }
         requires some { 0 < self.now.n }
-        requires live { (seat.old.me.0.live ≡ true) × (other.me.0.live ≡ true) }
-        requires empty { other.me.1 ≡ [] }
         ensures table { seat.new.table_id ≡ seat.old.table_id }
         ensures both { seat.new.me ≡ (both seat.old.me.0 other.me.0, seat.old.me.1) }
     {

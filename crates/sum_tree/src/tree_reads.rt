@@ -1,11 +1,20 @@
 //! Reading the words of children.
-ghost use Rattle.std.specs.Prelude.{◌≡◌, ◌<◌, ◌^◌, None, IfSome, IfNone};
+ghost use Rattle.std.specs.Prelude.{◌≡◌, ◌-◌, ◌<◌, ◌^◌, min, None, IfSome, IfNone};
 ghost use Rattle.sum_tree.specs.Tree.{children};
 ghost use Rattle.sum_tree.specs.TreeRule.{below};
 ghost use Rattle.sum_tree.specs.TreeSeats.{shown_by, IsSeat};
 ghost use Rattle.sum_tree.specs.TreeReads.{Loaded, ChildrenFinal, Blocked};
 
 use crate::sum_trees::{SumSeat, SumTree};
+
+impl SumSeat {
+    /// How many children the rank has, of which `first` is the first.
+    fn children_from(&self, first: usize) -> usize
+        ensures { result ≡ min self.now.width (self.now.n - first) }
+    {
+        (self.width as usize).min((self.n as usize).saturating_sub(first))
+    }
+}
 
 impl SumTree {
     /// The sum of the numbers in the words of the children.
@@ -20,13 +29,10 @@ impl SumTree {
             (children seat.old.seat.me.0.own.n seat.old.seat.me.0.own.width seat.old.seat.me.0.own.number) seat.new.seat.me.0.own }
     {
         let first = (seat.number * seat.width + 1) as usize;
-        let n = seat.n as usize;
+        let count = seat.children_from(first);
         let mut sum = 0;
-        if first < n {
-            let count = (seat.width as usize).min(n - first);
-            for child in first..first + count {
-                sum += self.load_step(&mut seat.seat, seat.number, child) / 2;
-            }
+        for child in first..first + count {
+            sum += self.load_step(&mut seat.seat, seat.number, child) / 2;
         }
         sum
     }
@@ -42,17 +48,14 @@ impl SumTree {
         ensures none { IfNone result (Blocked seat.old.seat.me.0.own (children seat.old.n seat.old.width seat.old.number) seat.new.seat.me.0.own) }
     {
         let first = (seat.number * seat.width + 1) as usize;
-        let n = seat.n as usize;
+        let count = seat.children_from(first);
         let mut sum = 0;
-        if first < n {
-            let count = (seat.width as usize).min(n - first);
-            for child in first..first + count {
-                let found = self.load_step(&mut seat.seat, seat.number, child);
-                if found % 2 != 1 {
-                    return None;
-                }
-                sum += found / 2;
+        for child in first..first + count {
+            let found = self.load_step(&mut seat.seat, seat.number, child);
+            if found % 2 != 1 {
+                return None;
             }
+            sum += found / 2;
         }
         Some(sum)
     }

@@ -1,9 +1,9 @@
-//! The rule of the table of sums, and the facts that each kind of step gives.
-ghost use Rattle.sum_tree.specs.TreeRule.{Rule, opened, dealing, dealt_out, both, spent};
-ghost use Rattle.sum_tree.specs.TreeSteps.{LoadTells, StoreTells, FinalTells, LastLookTells};
+//! The rule of the table of sums, and the facts that each kind of step gives. Those of a gathering are in `src/tree_gathers.rt`.
+ghost use Rattle.sum_tree.specs.TreeRule.{Rule, opened, dealing, dealt_out};
+ghost use Rattle.sum_tree.specs.TreeSteps.{LoadTells, StoreTells, FinalTells};
 
 use crate::tree_views::View;
-use atomic_table::{Join, Play, Split, TableRule};
+use atomic_table::{Play, Split, TableRule};
 
 pub struct Adding;
 
@@ -37,18 +37,4 @@ impl Split<View> for Deal {
     ghost left = { dealing };
 
     ghost right = { dealt_out };
-}
-
-pub struct Gather;
-
-impl Join<View> for Gather {
-    ghost both = { both };
-
-    ghost spent = { spent };
-}
-
-pub struct LastLook;
-
-impl Play<(), View> for LastLook {
-    ghost then = { LastLookTells };
 }

@@ -10,7 +10,7 @@ returns-clause-reads c =
     let v = c.args.seat.now.seat.me.0.own in
     let F = c.front_slot.ensures.fronted in
     let same : c.fill_slot.new.seat.me.0 ≡ c.args.seat.now.seat.me.0 = ap (λ (m : SeatState). m.0) c.fill_slot.ensures.filled ∙ F.view in
-    let me : c.front_slot.new.seat.number ≡ v.number = F.number ∙ sym c.requires.seat.number in
+    let me : c.front_slot.new.seat.number ≡ v.number = F.same.0 ∙ sym c.requires.seat.number in
     one_more v.readings _ (Step (c.args.to + 1) (Is (serving v.number)) (Is (full v.number))) (reading (c.args.to + 1) f.0 (word_of (full v.number)))
     (refl, f.1 ∙ ap serving me, sign_of_word (full v.number))
     (ap (λ (m : SeatState). m.0.own.readings) f.2 ∙ ap (λ (w : View). w.own.readings ++ reading (c.args.to + 1) f.0 (word_of (full w.own.number)) ∷ []) same)
@@ -24,8 +24,8 @@ returns-clause-mine c =
     let same : c.fill_slot.new.seat.me.0 ≡ c.args.seat.now.seat.me.0 = ap (λ (m : SeatState). m.0) fill ∙ F.view in
     let u = c.fill_slot.new.seat.me.0.own in
     let k : Known = after_post u c.args.to (c.args.to + 1) f.0 (front c.fill_slot.new.seat.me.1) in
-    let as_number : u.number ≡ c.front_slot.new.seat.number = ap (λ (x : View). x.own.number) same ∙ S.number ∙ sym F.number in
-    let as_colour : u.colour ≡ c.front_slot.new.seat.colour = ap (λ (x : View). x.own.colour) same ∙ S.colour ∙ sym F.colour in
+    let as_number : u.number ≡ c.front_slot.new.seat.number = ap (λ (x : View). x.own.number) same ∙ S.number ∙ sym F.same.0 in
+    let as_colour : u.colour ≡ c.front_slot.new.seat.colour = ap (λ (x : View). x.own.colour) same ∙ S.colour ∙ sym F.same.2 in
     answered_one _ c.args.seat.now c.front_slot.new.seat _ k c.args.to S c.requires.served record {
       fronted = F;
       table = c.post_step.ensures.table ∙ c.fill_slot.ensures.table;
@@ -39,7 +39,7 @@ returns-clause-mine c =
       serves_less = ap (λ (x : View). set x.own.serves c.args.to false) same;
       colour = ap (λ (j : ℕ). cond (nat_lt j c.args.to) Black u.colour) as_number
           ∙ ap (λ (x : Colour). cond (nat_lt c.front_slot.new.seat.number c.args.to) Black x) as_colour ∙ sym c.shaded-seat.ensures;
-      here = ap (λ (x : View). x.own.here) same ∙ S.here ∙ sym F.here;
-      own = ap (λ (x : View). x.own.own) same ∙ S.own ∙ ap own_by (sym F.asked);
-      ended = ap (λ (x : View). x.own.ended) same ∙ S.ended ∙ sym F.ended;
+      here = ap (λ (x : View). x.own.here) same ∙ S.here ∙ sym F.same.3;
+      own = ap (λ (x : View). x.own.own) same ∙ S.own ∙ ap own_by (sym F.same.4);
+      ended = ap (λ (x : View). x.own.ended) same ∙ S.ended ∙ sym F.same.5;
     }

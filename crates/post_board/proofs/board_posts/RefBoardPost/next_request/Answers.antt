@@ -13,16 +13,11 @@ loop-r-preserved c =
     elim c.else-r-seat.branch [
       | else-r-seat-via-then-r-seat+else-look_at w ↦
           (let miss = w.look_at.ensures.miss w.if-look_at.false in
-          let ne : c.loop-r.r ≢ c.args.seat.now.number = (λ e. w.if-r-seat.true (e ∙ sym inv.number)) in
-          let other : miss.0 ≢ word_of (asking c.args.seat.now.number) = (λ e. miss.1 (e ∙ ap (λ (k : ℕ). word_of (asking k)) (sym inv.number))) in
+          let ne : c.loop-r.r ≢ c.args.seat.now.number = (λ e. w.if-r-seat.true (e ∙ sym inv.same.0)) in
+          let other : miss.0 ≢ word_of (asking c.args.seat.now.number) = (λ e. miss.1 (e ∙ ap (λ (k : ℕ). word_of (asking k)) (sym inv.same.0))) in
           record {
             table = rw w.seat-is (w.look_at.ensures.table ∙ inv.table);
-            number = rw w.seat-is inv.number;
-            n = rw w.seat-is inv.n;
-            colour = rw w.seat-is inv.colour;
-            here = rw w.seat-is inv.here;
-            asked = rw w.seat-is inv.asked;
-            ended = rw w.seat-is inv.ended;
+            same = rw w.seat-is inv.same;
             held = rw w.seat-is inv.held;
             looked = rw w.seat-is (looked_more c.args.seat.now.number c.loop-r.r miss.0 c.args.seat.now.seat.me c.loop-r.seat.seat.me w.look_at.new.seat.me
                 ne other miss.2 inv.looked);
@@ -30,15 +25,10 @@ loop-r-preserved c =
       | else-r-seat-via-else-r-seat w ↦
           record {
             table = rw w.seat-is inv.table;
-            number = rw w.seat-is inv.number;
-            n = rw w.seat-is inv.n;
-            colour = rw w.seat-is inv.colour;
-            here = rw w.seat-is inv.here;
-            asked = rw w.seat-is inv.asked;
-            ended = rw w.seat-is inv.ended;
+            same = rw w.seat-is inv.same;
             held = rw w.seat-is inv.held;
             looked = rw w.seat-is (looked_self c.args.seat.now.number c.loop-r.r c.args.seat.now.seat.me c.loop-r.seat.seat.me
-                (w.if-r-seat.false ∙ inv.number) inv.looked);
+                (w.if-r-seat.false ∙ inv.same.0) inv.looked);
           }
     ]
 
@@ -48,7 +38,7 @@ returns-then-look_at-clause-reads c =
     let L : Looked c.args.seat.now.number c.loop-r.r c.args.seat.now.seat.me c.loop-r.seat.seat.me = inv.looked in
     let v = c.args.seat.now.seat.me.0.own in
     let hit = c.look_at.ensures.hit c.if-look_at.true in
-    let me : c.loop-r.seat.number ≡ v.number = inv.number ∙ sym c.requires.seat.number in
+    let me : c.loop-r.seat.number ≡ v.number = inv.same.0 ∙ sym c.requires.seat.number in
     let x : Reading = reading (c.loop-r.r + 1) (word_of (asking c.loop-r.seat.number)) (word_of (serving v.number)) in (
       L.steps ++ x ∷ [],
       (
@@ -92,17 +82,17 @@ returns-then-look_at-clause-mine c =
     ∙ ap (λ h. h.items ++ c.loop-r.r ∷ []) inv.held in
     record {
       table = c.turn.ensures.0 ∙ c.look_at.ensures.table ∙ inv.table ∙ S.table;
-      number = ap (λ (x : View). x.own.number) me ∙ S.number ∙ sym inv.number;
+      number = ap (λ (x : View). x.own.number) me ∙ S.number ∙ sym inv.same.0;
       sized = ap (λ (x : View). x.own.n) me ∙ S.sized;
-      n = inv.n ∙ S.n;
-      inside = subst (λ (k : ℕ). k < c.args.self.now.now.n) (sym inv.number) S.inside;
+      n = inv.same.1 ∙ S.n;
+      inside = subst (λ (k : ℕ). k < c.args.self.now.now.n) (sym inv.same.0) S.inside;
       live = ap (λ (x : View). x.live) me ∙ S.live;
       alone = ap (λ (x : View). x.kept) me ∙ S.alone;
       wide = ap (λ (x : View). length x.own.serves) me ∙ length-set v.serves c.loop-r.r true ∙ S.wide;
-      colour = ap (λ (x : View). x.own.colour) me ∙ S.colour ∙ sym inv.colour;
-      here = ap (λ (x : View). x.own.here) me ∙ S.here ∙ sym inv.here;
-      own = ap (λ (x : View). x.own.own) me ∙ S.own ∙ ap own_by (sym inv.asked);
-      ended = ap (λ (x : View). x.own.ended) me ∙ S.ended ∙ sym inv.ended;
+      colour = ap (λ (x : View). x.own.colour) me ∙ S.colour ∙ sym inv.same.2;
+      here = ap (λ (x : View). x.own.here) me ∙ S.here ∙ sym inv.same.3;
+      own = ap (λ (x : View). x.own.own) me ∙ S.own ∙ ap own_by (sym inv.same.4);
+      ended = ap (λ (x : View). x.own.ended) me ∙ S.ended ∙ sym inv.same.5;
       room = (let a = S.room in let b : deque_capacity c.loop-r.seat.held ≤ deque_capacity c.push_back.new.self = c.in_default.ensures.capacity in
           let d : deque_capacity c.loop-r.seat.held ≡ deque_capacity c.args.seat.now.held = ap (λ h. deque_capacity h) inv.held in omega arith);
       count = (let a = S.count in let b : length c.push_back.new.self.items ≡ length c.args.seat.now.held.items + 1 = ap length items

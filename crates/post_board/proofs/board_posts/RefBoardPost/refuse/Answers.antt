@@ -10,7 +10,7 @@ returns-clause-reads c =
     let f = c.refuse_step.ensures.after in
     let v = c.args.seat.now.seat.me.0.own in
     let F = c.front_slot.ensures.fronted in
-    let me : c.front_slot.new.seat.number ≡ v.number = F.number ∙ sym c.requires.seat.number in
+    let me : c.front_slot.new.seat.number ≡ v.number = F.same.0 ∙ sym c.requires.seat.number in
     one_more v.readings _ (Step (c.args.to + 1) (Is (serving v.number)) (Is (emptied v.number))) (reading (c.args.to + 1) f.0 (word_of (emptied v.number)))
     (refl, f.1 ∙ ap serving me, sign_of_word (emptied v.number))
     (ap (λ (m : SeatState). m.0.own.readings) f.2 ∙ ap (λ (w : View). w.own.readings ++ reading (c.args.to + 1) f.0
@@ -33,8 +33,8 @@ returns-clause-mine c =
       same_number = ap (λ (x : View). x.own.number) F.view;
       same_size = ap (λ (x : View). x.own.n) F.view;
       serves_less = ap (λ (x : View). set x.own.serves c.args.to false) F.view;
-      colour = ap (λ (x : View). x.own.colour) F.view ∙ S.colour ∙ sym F.colour;
-      here = ap (λ (x : View). x.own.here) F.view ∙ S.here ∙ sym F.here;
-      own = ap (λ (x : View). x.own.own) F.view ∙ S.own ∙ ap own_by (sym F.asked);
-      ended = ap (λ (x : View). x.own.ended) F.view ∙ S.ended ∙ sym F.ended;
+      colour = ap (λ (x : View). x.own.colour) F.view ∙ S.colour ∙ sym F.same.2;
+      here = ap (λ (x : View). x.own.here) F.view ∙ S.here ∙ sym F.same.3;
+      own = ap (λ (x : View). x.own.own) F.view ∙ S.own ∙ ap own_by (sym F.same.4);
+      ended = ap (λ (x : View). x.own.ended) F.view ∙ S.ended ∙ sym F.same.5;
     }

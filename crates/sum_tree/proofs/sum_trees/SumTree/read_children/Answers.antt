@@ -9,22 +9,18 @@ pub loop-child-preserved : goal.loop-child-preserved
 loop-child-preserved c =
     let inv = c.loop-child.invariant in
     let v = c.args.seat.now in let s = c.loop-child.seat in
-    let L = one_loaded c.args.self.now v s (record s { seat = c.load_step.new.seat }) c.loop-child.child c.min-count.result c.load_step.result c.requires.seat.n
-    inv.mine c.min-count.ensures c.loop-child.auto.child c.loop-child-test.true c.load_step.ensures.table c.load_step.ensures.after c.load_step.ensures.rises
-    (refl, refl, refl, refl, refl) in
-    let sum = on_sum L c.loop-child.sum inv.sum (inv.number, inv.n, inv.width, inv.count, inv.answer) in
+    let L = one_loaded c.args.self.now v s (record s { seat = c.load_step.new.seat }) c.loop-child.child c.children_from-count.result c.load_step.result
+    c.requires.seat.n inv.mine c.children_from-count.ensures c.loop-child.auto.child c.loop-child-test.true c.load_step.ensures.table
+    c.load_step.ensures.after c.load_step.ensures.rises (refl, refl, refl, refl, refl) in
+    let sum = on_sum L c.loop-child.sum inv.sum inv.same in
     record {
       mine = L.mine;
       loaded = on_load L (λ j. Loaded v.seat.me.0.own (range_with_len (first_child v) j))
           (loaded_more v.seat.me.0.own s.seat.me.0.own (first_child v) (c.loop-child.child - first_child v) c.load_step.result inv.loaded L.long).0;
       sum = sum.0;
       fits = (let f = c.load_step.ensures.fits in let p = sum.1 in omega arith);
-      number = inv.number;
-      n = inv.n;
-      width = inv.width;
-      count = inv.count;
-      answer = inv.answer;
+      same = inv.same;
     }
 
-pub returns-after-loop-child-clause-fits : goal.returns-after-loop-child-clause-fits
-returns-after-loop-child-clause-fits c = c.loop-child.invariant.fits
+pub returns-clause-fits : goal.returns-clause-fits
+returns-clause-fits c = c.loop-child.invariant.fits

@@ -9,17 +9,13 @@ pub loop-child-preserved : goal.loop-child-preserved
 loop-child-preserved c =
     let inv = c.loop-child.invariant in
     let v = c.args.seat.now in let s = c.loop-child.seat in
-    let L = one_loaded c.args.self.now v s (record s { seat = c.load_step-found.new.seat }) c.loop-child.child c.min-count.result c.load_step-found.result
-    c.requires.seat.n inv.mine c.min-count.ensures c.loop-child.auto.child c.loop-child-test.true c.load_step-found.ensures.table
-    c.load_step-found.ensures.after c.load_step-found.ensures.rises (refl, refl, refl, refl, refl) in
-    let sum = on_sum L c.loop-child.sum inv.sum (inv.number, inv.n, inv.width, inv.count, inv.answer) in
+    let L = one_loaded c.args.self.now v s (record s { seat = c.load_step-found.new.seat }) c.loop-child.child c.children_from-count.result
+    c.load_step-found.result c.requires.seat.n inv.mine c.children_from-count.ensures c.loop-child.auto.child c.loop-child-test.true
+    c.load_step-found.ensures.table c.load_step-found.ensures.after c.load_step-found.ensures.rises (refl, refl, refl, refl, refl) in
+    let sum = on_sum L c.loop-child.sum inv.sum inv.same in
     record {
       mine = L.mine;
-      number = inv.number;
-      n = inv.n;
-      width = inv.width;
-      count = inv.count;
-      answer = inv.answer;
+      same = inv.same;
       loaded = on_load L (LoadedFinal v.seat.me.0.own (first_child v)) (final_more v.seat.me.0.own s.seat.me.0.own (first_child v)
           (c.loop-child.child - first_child v) c.load_step-found.result inv.loaded L.long L.wide c.if-found-ne1.false);
       sum = sum.0;
@@ -33,11 +29,7 @@ loop-child-init c =
     let none : 0 ≡ a - a = omega arith in
     record {
       mine = c.requires.seat;
-      number = refl;
-      n = refl;
-      width = refl;
-      count = refl;
-      answer = refl;
+      same = (refl, refl, refl, refl, refl);
       loaded = subst (λ (j : ℕ). LoadedFinal v a j v) none (final_none v a);
       sum = ap (λ (j : ℕ). sum_by (seen_of v) (range_with_len a j)) none;
       fits = omega arith;
@@ -47,35 +39,28 @@ pub returns-then-found-ne1-clause-mine : goal.returns-then-found-ne1-clause-mine
 returns-then-found-ne1-clause-mine c =
     let inv = c.loop-child.invariant in
     let v = c.args.seat.now in let s = c.loop-child.seat in
-    let L = one_loaded c.args.self.now v s (record s { seat = c.load_step-found.new.seat }) c.loop-child.child c.min-count.result c.load_step-found.result
-    c.requires.seat.n inv.mine c.min-count.ensures c.loop-child.auto.child c.loop-child-test.true c.load_step-found.ensures.table
-    c.load_step-found.ensures.after c.load_step-found.ensures.rises (refl, refl, refl, refl, refl) in
+    let L = one_loaded c.args.self.now v s (record s { seat = c.load_step-found.new.seat }) c.loop-child.child c.children_from-count.result
+    c.load_step-found.result c.requires.seat.n inv.mine c.children_from-count.ensures c.loop-child.auto.child c.loop-child-test.true
+    c.load_step-found.ensures.table c.load_step-found.ensures.after c.load_step-found.ensures.rises (refl, refl, refl, refl, refl) in
     L.mine
 
 pub returns-then-found-ne1-clause-none : goal.returns-then-found-ne1-clause-none
 returns-then-found-ne1-clause-none c =
     let inv = c.loop-child.invariant in
     let v = c.args.seat.now in let s = c.loop-child.seat in
-    let L = one_loaded c.args.self.now v s (record s { seat = c.load_step-found.new.seat }) c.loop-child.child c.min-count.result c.load_step-found.result
-    c.requires.seat.n inv.mine c.min-count.ensures c.loop-child.auto.child c.loop-child-test.true c.load_step-found.ensures.table
-    c.load_step-found.ensures.after c.load_step-found.ensures.rises (refl, refl, refl, refl, refl) in
+    let L = one_loaded c.args.self.now v s (record s { seat = c.load_step-found.new.seat }) c.loop-child.child c.children_from-count.result
+    c.load_step-found.result c.requires.seat.n inv.mine c.children_from-count.ensures c.loop-child.auto.child c.loop-child-test.true
+    c.load_step-found.ensures.table c.load_step-found.ensures.after c.load_step-found.ensures.rises (refl, refl, refl, refl, refl) in
     subst (Blocked v.seat.me.0.own (range_with_len (first_child v) (many_children v))) (sym L.is) (blocks v.seat.me.0.own s.seat.me.0.own (first_child v)
     (c.loop-child.child - first_child v) (many_children v) c.load_step-found.result inv.loaded L.long L.room c.if-found-ne1.true)
 
-pub returns-after-loop-child-clause-some : goal.returns-after-loop-child-clause-some
-returns-after-loop-child-clause-some c =
+pub returns-clause-some : goal.returns-clause-some
+returns-clause-some c =
     let a : ℕ = c.args.seat.now.number * c.args.seat.now.width + 1 in
-    let count : c.min-count.result ≡ min c.args.seat.now.width (c.args.seat.now.n - a) = c.min-count.ensures in
-    let done : a + c.min-count.result ≤ c.loop-child.child = c.loop-child-test.false in
+    let count : c.children_from-count.result ≡ min c.args.seat.now.width (c.args.seat.now.n - a) = c.children_from-count.ensures in
+    let done : a + c.children_from-count.result ≤ c.loop-child.child = c.loop-child-test.false in
     let last = c.loop-child.auto.child-end in
     let low : a ≤ c.loop-child.child = c.loop-child.auto.child in
-    let upto : c.loop-child.child ≤ a + c.min-count.result = omega arith in
+    let upto : c.loop-child.child ≤ a + c.children_from-count.result = omega arith in
     let whole : c.loop-child.child - a ≡ min c.args.seat.now.width (c.args.seat.now.n - a) = omega arith in
     subst (λ (j : ℕ). LoadedFinal c.args.seat.now.seat.me.0.own a j c.loop-child.seat.seat.me.0.own) whole c.loop-child.invariant.loaded
-
-pub returns-else-first-n-clause-some : goal.returns-else-first-n-clause-some
-returns-else-first-n-clause-some c =
-    let a : ℕ = c.args.seat.now.number * c.args.seat.now.width + 1 in
-    let past : c.args.seat.now.n ≤ a = c.if-first-n.false in
-    let none : 0 ≡ min c.args.seat.now.width (c.args.seat.now.n - a) = omega arith in
-    subst (λ (j : ℕ). LoadedFinal c.args.seat.now.seat.me.0.own a j c.args.seat.now.seat.me.0.own) none (final_none c.args.seat.now.seat.me.0.own a)

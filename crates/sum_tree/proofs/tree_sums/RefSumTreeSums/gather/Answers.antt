@@ -25,23 +25,10 @@ join_step-requires-clause-some c = some_ranks c.args.self.now.now c.args.all.ite
 pub sum_step-requires-clause-some : goal.sum_step-requires-clause-some
 sum_step-requires-clause-some c = some_ranks c.args.self.now.now c.args.all.items c.requires.all c.requires.some
 
-pub join_step-requires-clause-fits : goal.join_step-requires-clause-fits
-join_step-requires-clause-fits c =
-    let p = fits c.args.self.now.now c.args.all.items c.requires.all c.pop-in-loop-other.new.self.items c.in-Some-pop.other c.loop-other.invariant.together
-    c.in-Some-pop.ensures.items (ap (λ s. s.table_id) c.apart-theirs.ensures.0) (ap (λ s. s.me) c.apart-theirs.ensures.0) in
-    (c.loop-other.invariant.table, p.0)
-
-pub join_step-requires-clause-empty : goal.join_step-requires-clause-empty
-join_step-requires-clause-empty c =
-    let p = fits c.args.self.now.now c.args.all.items c.requires.all c.pop-in-loop-other.new.self.items c.in-Some-pop.other c.loop-other.invariant.together
-    c.in-Some-pop.ensures.items (ap (λ s. s.table_id) c.apart-theirs.ensures.0) (ap (λ s. s.me) c.apart-theirs.ensures.0) in
-    p.2
-
-pub join_step-requires-clause-live : goal.join_step-requires-clause-live
-join_step-requires-clause-live c =
-    let p = fits c.args.self.now.now c.args.all.items c.requires.all c.pop-in-loop-other.new.self.items c.in-Some-pop.other c.loop-other.invariant.together
-    c.in-Some-pop.ensures.items (ap (λ s. s.table_id) c.apart-theirs.ensures.0) (ap (λ s. s.me) c.apart-theirs.ensures.0) in
-    (c.loop-other.invariant.live, p.1)
+pub join_step-requires-clause-theirs : goal.join_step-requires-clause-theirs
+join_step-requires-clause-theirs c =
+    fits c.args.self.now.now c.args.all.items c.requires.all c.pop-in-loop-other.new.self.items c.in-Some-pop.other c.loop-other.invariant.together
+    c.in-Some-pop.ensures.items (ap (λ s. s.table_id) c.apart-theirs.ensures.0) (ap (λ s. s.me) c.apart-theirs.ensures.0)
 
 pub returns-clause-sum : goal.returns-clause-sum
 returns-clause-sum c =
