@@ -1,6 +1,6 @@
 //! Why a walk gives no list.
 use circle_run::CircleError;
-use path_text::NoMemory;
+use path_text::OutOfMemory;
 use thiserror::Error;
 
 /// Why a walk gives no list.
@@ -14,13 +14,13 @@ pub enum WalkError {
     TooMany(u64),
 }
 
-impl<E: NoMemory> From<E> for WalkError {
+impl From<OutOfMemory> for WalkError {
     ghost use Rattle.std.specs.Prelude.{◌≡◌};
     ghost use Rattle.tree_walk.specs.declared.errors.WalkError.TheVariants as error;
 
     ghost from_gives = { λ _ e. e ≡ error.OutOfMemory };
 
-    fn from(_: E) -> Self {
+    fn from(_: OutOfMemory) -> Self {
         WalkError::OutOfMemory
     }
 }
