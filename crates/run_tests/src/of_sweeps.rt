@@ -1,5 +1,6 @@
 //! Runs at every size: 10,000 nodes, also by ranks in threads, a sink full at any byte, and a list cut at any byte.
 use crate::rows::{AMPLE, TIME, parsed, run_with};
+use flat_list::FlatList;
 use memory_runs::WholeFiles;
 use mfu_top::Status;
 use std::alloc::Global;
@@ -77,21 +78,19 @@ items 5 dirs 2 files 3 links 0 others 0 bytes 6 failed 0
 fn a_sink_that_is_full_holds_what_it_took(rt: HostRuntime) {
     let alloc = rt.alloc();
     let mut files = WholeFiles::empty(alloc).expect(&rt, "memory");
-    files
-        .put_dir(&parsed(&rt, alloc, "/t"), 0, TIME)
-        .expect(&rt, "memory");
-    files
-        .put_file(&parsed(&rt, alloc, "/t/a"), b"hello", TIME)
-        .expect(&rt, "memory");
-    files
-        .put_dir(&parsed(&rt, alloc, "/t/b"), 0, TIME)
-        .expect(&rt, "memory");
-    files
-        .put_file(&parsed(&rt, alloc, "/t/b/c"), b"", TIME)
-        .expect(&rt, "memory");
-    files
-        .put_file(&parsed(&rt, alloc, "/t/b-x"), b"x", TIME)
-        .expect(&rt, "memory");
+    for (at, bytes) in [
+        ("/t", None),
+        ("/t/a", Some(b"hello".as_slice())),
+        ("/t/b", None),
+        ("/t/b/c", Some(b"")),
+        ("/t/b-x", Some(b"x")),
+    ] {
+        let path = parsed(&rt, alloc, at);
+        match bytes {
+            Some(bytes) => files.put_file(&path, bytes, TIME).expect(&rt, "memory"),
+            None => files.put_dir(&path, 0, TIME).expect(&rt, "memory"),
+        }
+    }
     let whole = TREE_T.as_bytes();
     for takes in 0..whole.len() {
         let limits = (takes as u64, AMPLE);
@@ -122,6 +121,7 @@ fn names_the_line_at_which_a_list_is_cut(rt: HostRuntime) {
     assert_eq!(rt; whole.len(), 129);
     for len in 0..whole.len() {
         let part = &whole[..len];
+        assert!(rt; FlatList::decode(alloc, part).is_err(), "{len}");
         let line = part.iter().filter(|byte| **byte == b'\n').count() as u64 + 1;
         let notes = format!(in alloc; "damaged /l line {line}\n").expect(&rt, "memory");
         let mut files = WholeFiles::empty(alloc).expect(&rt, "memory");
