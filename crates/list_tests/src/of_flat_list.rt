@@ -1,4 +1,4 @@
-//! Lists of many entries, cut list files, and logs that threads put in order.
+//! Lists of many entries, and logs that threads put in order. Cut list files are in `run_tests`.
 ghost use Rattle.std.specs.Prelude.{◌≤◌};
 
 use flat_list::{Entry, FlatList, Mark};
@@ -45,27 +45,6 @@ fn begins_each_page_with_a_whole_path(rt: HostRuntime) {
         assert!(rt; page.starts_with(b"/f0256"));
         assert!(rt; list.entry(256).expect(&rt, "memory").path == file(&rt, alloc, 256).path);
         assert!(rt; list.place_of(&file(&rt, alloc, 299).path) == Some(299));
-    }
-}
-
-// The list file of the worked tree.
-const WORKED: &str = "mfu list 2
-d 0 86400 ok 0 0 /t
-f 5 86400 ok 0 0 /t/a
-d 0 86400 ok 0 0 /t/b
-f 0 86400 ok 0 0 /t/b/c
-f 1 86400 ok 0 0 /t/b-x
-end 5
-";
-
-#[test]
-fn refuses_the_worked_list_cut_anywhere(rt: HostRuntime) {
-    let alloc = rt.alloc();
-    let whole = WORKED.as_bytes();
-    assert_eq!(rt; whole.len(), 129);
-    for len in 0..whole.len() {
-        let part = whole.get(..len).unwrap_or(&[]);
-        assert!(rt; FlatList::decode(alloc, part).is_err());
     }
 }
 
