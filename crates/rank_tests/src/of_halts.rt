@@ -1,12 +1,12 @@
 //! Ranks of a board hear that all must halt, and take back a request to a rank that has stopped.
-ghost use Rattle.std.specs.Prelude.{◌≡◌, ◌<◌, length};
+ghost use Rattle.std.specs.Prelude.{◌≡◌};
 ghost use Rattle.post_board.specs.Fresh.{fresh};
 
 use crate::boards::{board_of_words, plain_board};
 use crate::of_post_board::{newest_of, two_paths};
 use post_board::{Answer, Post, Ring};
-use rank_queue::Batch;
 use ring_core::Colour;
+use std::alloc::Global;
 use std::process::Abort;
 use std::test::Fail;
 
@@ -40,77 +40,78 @@ fn waits_until_the_stop<P: Post>(post: &mut P, zero: &mut P::Seat, one: &mut P::
     true
 }
 
-// The strings that rank 1 got from rank 0, which gave and then stopped.
+// Whether rank 1 gets the strings of rank 0, which gave them and then stopped.
 fn gets_what_came_before_the_stop<P: Post>(
     post: &mut P,
     zero: &mut P::Seat,
     one: &mut P::Seat,
-    batch: Batch,
-) -> Option<Batch>
+    alloc: Global,
+) -> Result<bool, Fail>
     requires seats { P.seats post.old zero.old × P.seats post.old one.old }
     requires zero { P.shows zero.old ≡ fresh 2 0 (P.shows zero.old).batches }
     requires one { P.shows one.old ≡ fresh 2 1 (P.shows one.old).batches }
-    requires some { 0 < length batch }
 {
+    let batch = two_paths(alloc)?;
     post.ask(one, 0);
     if post.next_request(zero) != Some(1) {
-        return None;
+        return Ok(false);
     }
     post.give(zero, 1, batch);
     post.stop(zero);
     let Answer::Work(given) = post.answer(one) else {
-        return None;
+        return Ok(false);
     };
-    Some(given)
+    match newest_of(alloc, given)? {
+        Some(newest) => Ok(newest.text() == "/b"),
+        None => Ok(false),
+    }
+}
+
+// How a run ends before all strings are handled.
+#[derive(Clone, Copy, Debug, Drop)]
+enum Scene {
+    Halt,
+    StopAfterRequest,
+    StopAfterAnswer,
+}
+
+const SCENES: [Scene; 3] = [Scene::Halt, Scene::StopAfterRequest, Scene::StopAfterAnswer];
+
+// Whether both ranks of a board before any call see what they must.
+fn plays<P: Post>(
+    post: &mut P,
+    zero: &mut P::Seat,
+    one: &mut P::Seat,
+    alloc: Global,
+    scene: Scene,
+) -> Result<bool, Fail>
+    requires seats { P.seats post.old zero.old × P.seats post.old one.old }
+    requires zero { P.shows zero.old ≡ fresh 2 0 (P.shows zero.old).batches }
+    requires one { P.shows one.old ≡ fresh 2 1 (P.shows one.old).batches }
+{
+    match scene {
+        Scene::Halt => Ok(both_hear_a_halt(post, zero, one)),
+        Scene::StopAfterRequest => Ok(waits_until_the_stop(post, zero, one)),
+        Scene::StopAfterAnswer => gets_what_came_before_the_stop(post, zero, one, alloc),
+    }
 }
 
 #[test]
-fn both_ranks_of_a_plain_board_hear_a_halt(rt: HostRuntime) -> Result<(), Fail> {
-    let (mut board, mut zero, mut one) = plain_board(rt.alloc())?;
-    assert!(rt; both_hear_a_halt(&mut board, &mut zero, &mut one));
+fn ranks_of_a_plain_board_hear_of_an_end(rt: HostRuntime) -> Result<(), Fail> {
+    for scene in SCENES {
+        let (mut board, mut zero, mut one) = plain_board(rt.alloc())?;
+        let seen = plays(&mut board, &mut zero, &mut one, rt.alloc(), scene)?;
+        assert!(rt; seen, "{scene:?}");
+    }
     Ok(())
 }
 
 #[test]
-fn both_ranks_of_a_board_of_words_hear_a_halt(rt: HostRuntime) -> Result<(), Fail> {
-    let (board, mut zero, mut one) = board_of_words(rt.alloc())?;
-    let mut post = &board;
-    assert!(rt; both_hear_a_halt(&mut post, &mut zero, &mut one));
-    Ok(())
-}
-
-#[test]
-fn a_request_on_a_plain_board_ends_with_a_stop(rt: HostRuntime) -> Result<(), Fail> {
-    let (mut board, mut zero, mut one) = plain_board(rt.alloc())?;
-    assert!(rt; waits_until_the_stop(&mut board, &mut zero, &mut one));
-    Ok(())
-}
-
-#[test]
-fn a_request_over_words_ends_with_a_stop(rt: HostRuntime) -> Result<(), Fail> {
-    let (board, mut zero, mut one) = board_of_words(rt.alloc())?;
-    let mut post = &board;
-    assert!(rt; waits_until_the_stop(&mut post, &mut zero, &mut one));
-    Ok(())
-}
-
-#[test]
-fn an_answer_on_a_plain_board_outlasts_a_stop(rt: HostRuntime) -> Result<(), Fail> {
-    let (mut board, mut zero, mut one) = plain_board(rt.alloc())?;
-    let batch = two_paths(rt.alloc())?;
-    let given = gets_what_came_before_the_stop(&mut board, &mut zero, &mut one, batch);
-    let newest = newest_of(rt.alloc(), given.ok_or("a batch")?)?;
-    assert_eq!(rt; newest.ok_or("two paths")?.text(), "/b");
-    Ok(())
-}
-
-#[test]
-fn an_answer_over_words_outlasts_a_stop(rt: HostRuntime) -> Result<(), Fail> {
-    let (board, mut zero, mut one) = board_of_words(rt.alloc())?;
-    let batch = two_paths(rt.alloc())?;
-    let mut post = &board;
-    let given = gets_what_came_before_the_stop(&mut post, &mut zero, &mut one, batch);
-    let newest = newest_of(rt.alloc(), given.ok_or("a batch")?)?;
-    assert_eq!(rt; newest.ok_or("two paths")?.text(), "/b");
+fn ranks_of_a_board_of_words_hear_of_an_end(rt: HostRuntime) -> Result<(), Fail> {
+    for scene in SCENES {
+        let (board, mut zero, mut one) = board_of_words(rt.alloc())?;
+        let seen = plays(&mut &board, &mut zero, &mut one, rt.alloc(), scene)?;
+        assert!(rt; seen, "{scene:?}");
+    }
     Ok(())
 }
