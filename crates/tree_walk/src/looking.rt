@@ -1,8 +1,7 @@
 //! The calls by which a job asks the files about one path.
 ghost use Rattle.std.specs.Prelude.{◌≡◌, ◌++◌, map, OnOk, IfOk};
-ghost use Rattle.flat_list.specs.Prelude.{joined, RoseBy, is_kind};
+ghost use Rattle.flat_list.specs.Prelude.{joined, RoseBy, is_of, is_kind};
 ghost use Rattle.outside.specs.Tree.{AreNames};
-ghost use Rattle.outside.specs.declared.trees.Kind.TheVariants as kinds;
 ghost use Rattle.entry_pages.specs.Entries.{is_fine};
 ghost use Rattle.tree_walk.specs.Answered.{IsAnswered};
 ghost use Rattle.tree_walk.specs.Held.{is_listed};
@@ -132,38 +131,29 @@ pub fn push_children(path: &Path, listing: &Listing, fresh: &mut Batch) -> Resul
 fn is_linked(entry: &Entry) -> bool
     ensures { result ≡ is_linked entry.now }
 {
-    match entry.stat {
-        Some(stat) => is_link(stat.kind) && is_fine(entry.mark),
-        None => false,
-    }
-}
-
-fn is_link(kind: Kind) -> bool
-    ensures { result ≡ is_kind kinds.Link kind }
-{
-    match kind {
-        Kind::Link => true,
-        Kind::File | Kind::Dir | Kind::Other => false,
-    }
+    is_of(Kind::Link, entry.stat) && is_fine(entry.mark)
 }
 
 // Whether an entry is of a directory that was listed.
 pub fn is_listed(entry: &Entry) -> bool
     ensures { result ≡ is_listed entry.now }
 {
-    match entry.stat {
-        Some(stat) => is_dir(stat.kind) && is_fine(entry.mark),
+    is_of(Kind::Dir, entry.stat) && is_fine(entry.mark)
+}
+
+fn is_of(kind: Kind, stat: Option<Stat>) -> bool
+    ensures { result ≡ is_of kind stat }
+{
+    match stat {
+        Some(stat) => is_kind(kind, stat.kind),
         None => false,
     }
 }
 
-fn is_dir(kind: Kind) -> bool
-    ensures { result ≡ is_kind kinds.Dir kind }
+fn is_kind(kind: Kind, other: Kind) -> bool
+    ensures { result ≡ is_kind kind other }
 {
-    match kind {
-        Kind::Dir => true,
-        Kind::File | Kind::Link | Kind::Other => false,
-    }
+    kind == other
 }
 
 fn is_fine(mark: Mark) -> bool
