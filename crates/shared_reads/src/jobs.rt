@@ -8,6 +8,9 @@ use crate::desks::Desk;
 use outside::Tree;
 use path_text::OutOfMemory;
 
+/// What reading for a place gives: an outcome, or `None` if there is nothing to read.
+pub type Reading<O> = Result<Option<O>, OutOfMemory>;
+
 /// Work at some places, for each of which any reader can read.
 pub trait Job<R: Tree, O> {
     ghost use Rattle.outside.specs.Tree.{Files};
@@ -26,7 +29,7 @@ pub trait Job<R: Tree, O> {
         ensures { result ≡ places self.now };
 
     /// Reads for a place. It gives `None` if there is nothing to read.
-    fn read(&self, place: usize, reader: &mut R, desk: &mut Desk) -> Result<Option<O>, OutOfMemory>
+    fn read(&self, place: usize, reader: &mut R, desk: &mut Desk) -> Reading<O>
         requires inside { place < places self.now }
         requires room { HasRoom desk.old }
         ensures told { IfOk result (λ found. IfSome found (told self.now (R.tree reader.old) place)) }

@@ -37,7 +37,7 @@ mod reading;
 mod sharing;
 
 pub use desks::Desk;
-pub use jobs::Job;
+pub use jobs::{Job, Reading};
 pub use keeping::{Found, Kept, make_room};
 pub use lending::{readers_of, take_back};
 pub use pieces::{PIECE, piece};

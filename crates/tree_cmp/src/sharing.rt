@@ -10,7 +10,7 @@ use crate::errors::CmpError;
 use crate::reading::{Outcome, same_bytes};
 use outside::Tree;
 use path_text::{OutOfMemory, Path};
-use shared_reads::{Desk, Job};
+use shared_reads::{Desk, Job, Reading};
 
 // The rows whose files are to be read, among all rows, and the two tops. A row's place is its index.
 #[derive(Drop)]
@@ -35,12 +35,7 @@ impl<'a, R: Tree> Job<R, Outcome> for Work<'a> {
         self.drafts.len()
     }
 
-    fn read(
-        &self,
-        place: usize,
-        reader: &mut R,
-        desk: &mut Desk,
-    ) -> Result<Option<Outcome>, OutOfMemory> {
+    fn read(&self, place: usize, reader: &mut R, desk: &mut Desk) -> Reading<Outcome> {
         let draft = &self.drafts[place];
         let Some(size) = draft.unread else {
             return Ok(None);
