@@ -67,19 +67,18 @@ holds terms row = list_any (λ term. list_all (meets row) term) terms
 abbrev pub is : List ℕ → List ℕ → Bool
 is word text = pointwise nat_eq text word
 
+-- the condition of the state that the sides have in common, or of the state in which they differ
+abbrev pub either_in : Condition → Condition → List ℕ → Option Condition
+either_in common differ state = if is (codes "COMMON") state then Some common else if is (codes "DIFFER") state then Some differ else None
+
 abbrev pub exist_in : List ℕ → Option Condition
 exist_in state =
     if is (codes "ONLY_SRC") state then Some condition.OnlySrc
     else if is (codes "ONLY_DEST") state then Some condition.OnlyDest
-    else if is (codes "DIFFER") state then Some condition.OnOneSide
-    else if is (codes "COMMON") state then Some condition.OnBoth
-    else None
+    else either_in condition.OnBoth condition.OnOneSide state
 
 abbrev pub two_in : Aspect → List ℕ → Option Condition
-two_in a state =
-    if is (codes "COMMON") state then Some (condition.Agree a)
-    else if is (codes "DIFFER") state then Some (condition.Differ a)
-    else None
+two_in a state = either_in (condition.Agree a) (condition.Differ a) state
 
 -- the condition, or the place at which its state is refused
 abbrev pub or_bad_state : ℕ → Option Condition → Result Condition ExprError

@@ -2,7 +2,7 @@
 ghost use Rattle.std.specs.Prelude.{◌≡◌, ◌+◌, ◌<◌, ◌==◌, ◌^◌, not, length, IfSome};
 ghost use Rattle.std.specs.List.{position};
 ghost use Rattle.tree_cmp.specs.Expressions.{value_of, meets};
-ghost use Rattle.tree_cmp.specs.Expressions.{exist_in, two_in, or_bad_state, condition_in, condition_reading};
+ghost use Rattle.tree_cmp.specs.Expressions.{exist_in, two_in, either_in, or_bad_state, condition_in, condition_reading};
 
 use crate::errors::ExprError;
 use crate::rows::{Exist, Row, Two};
@@ -110,22 +110,25 @@ fn exist_in(state: &[u8]) -> Option<Condition>
         Some(Condition::OnlySrc)
     } else if state == b"ONLY_DEST".as_slice() {
         Some(Condition::OnlyDest)
-    } else if state == b"DIFFER".as_slice() {
-        Some(Condition::OnOneSide)
-    } else if state == b"COMMON".as_slice() {
-        Some(Condition::OnBoth)
     } else {
-        None
+        either_in(Condition::OnBoth, Condition::OnOneSide, state)
     }
 }
 
 fn two_in(aspect: Aspect, state: &[u8]) -> Option<Condition>
     ensures { result ≡ two_in aspect state.now }
 {
+    either_in(Condition::Agree(aspect), Condition::Differ(aspect), state)
+}
+
+// The condition of the state that the sides have in common, or of the state in which they differ.
+fn either_in(common: Condition, differ: Condition, state: &[u8]) -> Option<Condition>
+    ensures { result ≡ either_in common differ state.now }
+{
     if state == b"COMMON".as_slice() {
-        Some(Condition::Agree(aspect))
+        Some(common)
     } else if state == b"DIFFER".as_slice() {
-        Some(Condition::Differ(aspect))
+        Some(differ)
     } else {
         None
     }
