@@ -1,3 +1,4 @@
+pub mod Prelude
 pub mod Sides
 pub mod Rows
 pub mod Readers

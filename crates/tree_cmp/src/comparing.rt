@@ -1,8 +1,6 @@
 //! The comparison of two lists.
 ghost use Rattle.std.specs.Prelude.{◌≡◌, ◌<◌, ◌≤◌, length, map, IfOk, OnOk, IfSome, All};
-ghost use Rattle.tree_cmp.specs.Sides.{side, IsSide};
-ghost use Rattle.tree_cmp.specs.Rows.{IsComparison};
-ghost use Rattle.tree_cmp.specs.Readers.{first_told, Alike, HaveCauses, StatsTold, NoneFell, RoseTogether};
+ghost use Rattle.tree_cmp.specs.Prelude.{first_told, Alike, HaveCauses, StatsTold, NoneFell, RoseTogether, IsComparison, side, IsSide};
 ghost use Rattle.tree_cmp.specs.Private.Sharing.{IsSettled, unsettled, blames};
 
 use crate::compared::Compared;

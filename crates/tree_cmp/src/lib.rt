@@ -28,8 +28,7 @@
 //! of a link. `sharing` lets workers read the files of rows, each with a reader and two buffers of its own (`shared_reads`). A worker
 //! takes the next row that none has taken, by a shared count. `settling` puts the outcomes beside the rows, and reads the files whose
 //! outcome no worker could keep. `reading` compares two files, and `compared` makes the findings. [`fill`] reads
-//! the bytes of one file into a buffer. `lending` takes readers from the
-//! files for all that, and gives them back.
+//! the bytes of one file into a buffer. `lending` takes readers from the files for all that ([`lent_readers`]), and gives them back.
 //!
 //! # What is proved
 //!
@@ -67,6 +66,6 @@ pub use comparing::compare;
 pub use errors::{CmpError, ExprError};
 pub use expressions::{Expr, parse_expr};
 pub use laws::{faults_are_told, worked_expressions, worked_rows};
-pub use lending::compare_files;
+pub use lending::{compare_files, lent_readers};
 pub use reading::{Missing, fill};
 pub use rows::{Exist, Missed, Row, Two};
