@@ -18,7 +18,7 @@ use crate::groups::Groups;
 use crate::runs::File;
 use outside::Tree;
 use path_text::{OutOfMemory, Path};
-use shared_reads::{Desk, Job, Kept, PIECE, piece};
+use shared_reads::{Desk, Job, Kept, PIECE, Reading, piece};
 use std::alloc::Global;
 use std::hash::{FoldHasher, Hasher};
 use tree_cmp::{Missing, fill};
@@ -46,12 +46,7 @@ impl<'a, R: Tree> Job<R, Hash> for Hashing<'a> {
         self.files.len()
     }
 
-    fn read(
-        &self,
-        place: usize,
-        reader: &mut R,
-        desk: &mut Desk,
-    ) -> Result<Option<Hash>, OutOfMemory> {
+    fn read(&self, place: usize, reader: &mut R, desk: &mut Desk) -> Reading<Hash> {
         // A hash is taken of whole pieces.
         if desk.ours.len() != PIECE {
             return Ok(None);

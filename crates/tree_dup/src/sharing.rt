@@ -10,7 +10,7 @@ use crate::comparing::compare_run;
 use crate::runs::{Comparison, File, Standing, same_content};
 use outside::Tree;
 use path_text::OutOfMemory;
-use shared_reads::{Desk, Job};
+use shared_reads::{Desk, Job, Reading};
 use std::alloc::Global;
 
 // Files in order by their content, whose runs are to be compared. A run's place is that of its first file.
@@ -34,12 +34,7 @@ impl<'a, R: Tree> Job<R, Comparison> for Runs<'a> {
         self.files.len()
     }
 
-    fn read(
-        &self,
-        place: usize,
-        reader: &mut R,
-        desk: &mut Desk,
-    ) -> Result<Option<Comparison>, OutOfMemory> {
+    fn read(&self, place: usize, reader: &mut R, desk: &mut Desk) -> Reading<Comparison> {
         let end = run_end(self.files, place);
         if end - place < 2 {
             return Ok(None);
