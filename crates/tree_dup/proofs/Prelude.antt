@@ -53,7 +53,7 @@ pub use Rattle.shared_reads.proofs.Taken.{holds_cut, holds_kept}
 pub use Rattle.shared_reads.specs.Counts.{KeepUp, KeepsUp, NoneFell}
 pub use Rattle.shared_reads.specs.Desks.{HasRoom}
 pub use Rattle.shared_reads.specs.Kept.{Holds, IsKept, faults_of, held}
-pub use Rattle.tree_cmp.proofs.Counted.{alike, all_tell, first_is, first_tree, taken_back}
+pub use Rattle.tree_cmp.proofs.Counted.{all_tell, first_tree, taken_back}
 pub use Rattle.tree_cmp.proofs.OneRow.{file_of}
 pub use Rattle.tree_cmp.proofs.Placed.{if_some}
 pub use Rattle.tree_cmp.proofs.Taken.{same}

@@ -10,9 +10,10 @@ use crate::grouping::find_groups;
 use crate::groups::Groups;
 use flat_list::FlatList;
 use outside::Ground;
-use shared_reads::{readers_of, take_back};
+use shared_reads::take_back;
 use std::alloc::Global;
 use std::thread::Threads;
+use tree_cmp::lent_readers;
 
 /// Groups the files of a list as [`find_groups`] does, with a reader of them for each host. `hosts` is 1 to 64. The files take back
 /// all readers, also if memory runs out, and so count the faults that the readers counted.
@@ -35,9 +36,7 @@ where
     ensures area { G.area files.new ≡ G.area files.old }
     ensures count { RoseBy 0 (G.count files.old) (G.count files.new) }
 {
-    // The count of faults is a number of 64 bits.
-    let _faults = files.faults();
-    let mut readers = readers_of(alloc, files, hosts)?;
+    let mut readers = lent_readers(alloc, files, hosts)?;
     let found = find_groups(rt, alloc, list, &mut readers, hosts);
     take_back(files, readers);
     found
