@@ -1,15 +1,7 @@
 -- The actors of the lots before and after some work.
 use Rattle.level_work.proofs.Prelude.{◌≡◌, ℕ, zero, suc, ◌<◌, ◌≤◌, List, [], ◌∷◌, map, length, Some, refl, ap, ◌∙◌, sym, arith, slice_get, slice_index_or}
 use Rattle.level_work.proofs.Prelude.{SameActors, Lot}
-use Rattle.level_work.proofs.Working.{same_some}
-
-first : {Y : Type 0} → Y → List Y → Y
-first d [] = d
-first d (y ∷ ys) = y
-
-others : {Y : Type 0} → List Y → List Y
-others [] = []
-others (y ∷ ys) = ys
+use Rattle.level_work.proofs.Working.{first, others, same_some}
 
 pub act_map : {A P X : Type 0} (f : A → X) (xs ys : List (Lot A P)) → map (λ (l : Lot A P). l.actor) ys ≡ map (λ (l : Lot A P). l.actor) xs
     → map (λ (l : Lot A P). f l.actor) ys ≡ map (λ (l : Lot A P). f l.actor) xs

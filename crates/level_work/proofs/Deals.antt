@@ -8,8 +8,8 @@ use Rattle.level_work.proofs.Prelude.{dealt_to, AreInTurn, Item, Fate, Order, Lo
 use Rattle.level_work.specs.declared.items.Order.TheVariants as order
 use Rattle.level_work.proofs.Crewed.{map_get}
 use Rattle.level_work.proofs.Giving.{get_set_same, get_set_other, get_front, length_set, map_set, split_take_suc}
-use Rattle.level_work.proofs.Leases.{Written, written_here, written_there, written, other_number, not_less}
-use Rattle.level_work.proofs.Working.{same_some, get_more}
+use Rattle.level_work.proofs.Leases.{Written, written_here, written_there, written}
+use Rattle.level_work.proofs.Working.{same_some, get_more, not_less, other_number}
 
 pub failed_parent : (items : List Item) (fates : List Fate) (paths : List (List ℕ)) (x : Item) → AreFailed items fates paths
     → has_path paths (parent_of x.path) ≡ true → HasFailedParent items fates x

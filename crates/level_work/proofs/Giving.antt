@@ -3,9 +3,9 @@ use Rattle.level_work.proofs.Prelude.{◌≡◌, ◌⊎◌, inl, inr, ℕ, zero,
 use Rattle.level_work.proofs.Prelude.{take, drop, Option, Some, None, IfSome, refl, ap, ◌∙◌, sym, subst, arith, is_some, slice_get, eqb, false≢true, nat_tests}
 use Rattle.level_work.proofs.Prelude.{slice_get_within, sum_by-append, IsTrue, sum_by, list_any, slice_set, get, capped, Files, Area, all_but, under, in_tops}
 use Rattle.level_work.proofs.Prelude.{tops_of, is_out, area_with, without_tops, same_tops, Joins, part_tree, part_area, part_count, tops_in, tops_out, AllBack}
-use Rattle.level_work.proofs.Prelude.{Comes, stays, comes, InNone, SameShares, AreUnder, AllTell, Giving, Lot, slice_end}
+use Rattle.level_work.proofs.Prelude.{Comes, stays, comes, InNone, SameShares, AreUnder, AllTell, Giving, Lot, exact_unsigned_eq, slice_end}
 use Rattle.level_work.proofs.Lent.{same_tops_self}
-use Rattle.level_work.proofs.Working.{same_some, get_more}
+use Rattle.level_work.proofs.Working.{same_some, get_more, other_number}
 
 more : (i : ℕ) → i + 1 ≡ suc i
 more i = omega arith
@@ -179,6 +179,16 @@ map_set f [] i x y at e = refl
 map_set f (z ∷ xs) zero x y at e = ap (λ v. v ∷ map f xs) (e ∙ ap f (sym (same_some z x at)))
 map_set f (z ∷ xs) (suc i) x y at e = ap (λ r. f z ∷ r) (map_set f xs i x y at e)
 
+-- a lot that gets another part, stored in its place
+pub shares_set : {A P : Type 0} (lots now : List (Lot A P)) (i : ℕ) (lot new : Lot A P) (part : Option P) → slice_get now i ≡ Some lot
+    → new ≡ record lot { part = part } → SameShares lots now → SameShares lots (slice_set now i new)
+shares_set lots now i lot new part here is s = record {
+  actor = map_set (λ (l : Lot _ _). l.actor) now i lot new here (ap (λ (l : Lot _ _). l.actor) is) ∙ s.actor;
+  places = map_set (λ (l : Lot _ _). l.places) now i lot new here (ap (λ (l : Lot _ _). l.places) is) ∙ s.places;
+  fates = map_set (λ (l : Lot _ _). l.fates) now i lot new here (ap (λ (l : Lot _ _). l.fates) is) ∙ s.fates;
+  lost = map_set (λ (l : Lot _ _). l.lost) now i lot new here (ap (λ (l : Lot _ _). l.lost) is) ∙ s.lost;
+}
+
 module _ {A P : Type 0} (tree : P → Option Files) (area : P → Area) (count : P → ℕ) where
   pub step : (i : ℕ) (lots now : List (Lot A P)) (lot new : Lot A P) (a a' : Area) (t0 t t' : Option Files) (g0 g g' : ℕ)
       → slice_get now i ≡ Some lot → new ≡ record lot { part = None } → AreUnder (part_area area) lots → AllTell (part_tree tree) t0 lots →
@@ -196,28 +206,14 @@ module _ {A P : Type 0} (tree : P → Option Files) (area : P → Area) (count :
       inside : i < length now
       inside = slice_get_within now i lot here
 
-      shares : SameShares lots (slice_set now i new)
-      shares = record {
-        actor = map_set (λ (l : Lot A P). l.actor) now i lot new here (ap (λ (l : Lot A P). l.actor) is) ∙ v.shares.actor;
-        places = map_set (λ (l : Lot A P). l.places) now i lot new here (ap (λ (l : Lot A P). l.places) is) ∙ v.shares.places;
-        fates = map_set (λ (l : Lot A P). l.fates) now i lot new here (ap (λ (l : Lot A P). l.fates) is) ∙ v.shares.fates;
-        lost = map_set (λ (l : Lot A P). l.lost) now i lot new here (ap (λ (l : Lot A P). l.lost) is) ∙ v.shares.lost;
-      }
-
       home : (j : ℕ) (one : Lot A P) → j < i + 1 → slice_get (slice_set now i new) j ≡ Some one → one.part ≡ None
       home j one l e = elim (eqb j i) as (λ b. eqb j i ≡ b → one.part ≡ None) [
         | true ↦ λ h. ap (λ (l : Lot A P). l.part)
             (sym (same_some new one (sym (get_set_same now i new inside)
-            ∙ subst (λ k. slice_get (slice_set now i new) k ≡ Some one) (same j i h) e)) ∙ is)
-        | false ↦ λ h. v.home j one (before j i l h) (sym (get_set_other now i j new (other j i h)) ∙ e)
+            ∙ subst (λ k. slice_get (slice_set now i new) k ≡ Some one) (exact_unsigned_eq j i h) e)) ∙ is)
+        | false ↦ λ h. v.home j one (before j i l h) (sym (get_set_other now i j new (other_number j i h)) ∙ e)
       ] refl
         where
-          same : (j n : ℕ) → eqb j n ≡ true → j ≡ n
-          same j n e = grind (arith, nat_tests)
-
-          other : (j n : ℕ) → eqb j n ≡ false → j ≡ n → ⊥
-          other j n e s = absurd (false≢true (grind (arith, nat_tests)))
-
           before : (j n : ℕ) → j < n + 1 → eqb j n ≡ false → j < n
           before j n l e = grind (arith, nat_tests)
 
@@ -236,7 +232,7 @@ module _ {A P : Type 0} (tree : P → Option Files) (area : P → Area) (count :
       by : (o : Option P) → lot.part ≡ o → Giving (part_tree tree) (part_area area) (part_count count) (i + 1) lots (slice_set now i new) a' t0 t' g0 g'
       by None e = let n = none e in record {
         len = length_set now i new ∙ v.len;
-        shares = shares;
+        shares = shares_set lots now i lot new None here is v.shares;
         home = home;
         rest = rest;
         at = n.1 ∙ area_skip tree area count lots i lot a at e v.at;
@@ -248,7 +244,7 @@ module _ {A P : Type 0} (tree : P → Option Files) (area : P → Area) (count :
       }
       by (Some p) e = record {
         len = length_set now i new ∙ v.len;
-        shares = shares;
+        shares = shares_set lots now i lot new None here is v.shares;
         home = home;
         rest = rest;
         at = area_next tree area count lots i lot p a a' at e (unders i lot p at e) v.at (areas p e);

@@ -1,16 +1,16 @@
 -- Shares that are leased, one after the other.
 use Rattle.level_work.proofs.Prelude.{◌≡◌, ℕ, zero, suc, ◌+◌, ◌<◌, ◌≤◌, Bool, true, false, cond, not, ◌||◌, ◌&&◌, List, [], ◌∷◌, ◌++◌, length, Option, Some}
 use Rattle.level_work.proofs.Prelude.{None, IfSome, refl, ap, ◌∙◌, sym, subst, arith, eqb, nat_lt, append_assoc, is_some, slice_get, IsTrue, slice_set}
-use Rattle.level_work.proofs.Prelude.{false≢true, nat_tests, slice_get_within, list_all, option_map, get, is_within, level_of, parent_of, Files, is_dir}
+use Rattle.level_work.proofs.Prelude.{false≢true, slice_get_within, list_all, option_map, get, is_within, level_of, parent_of, Files, is_dir}
 use Rattle.level_work.proofs.Prelude.{is_root, Area, all_but, nothing_lent, under, is_open, is_apart, in_tops, leased, kept, area_without, tops_of, CanLease}
 use Rattle.level_work.proofs.Prelude.{HaveParents, as_deep, parent_above, itself, some_bytes, a_top, get_part, get_rest, AreItems, CanStep, IsAt, part_tree}
 use Rattle.level_work.proofs.Prelude.{part_area, part_count, ArePaths, IsShare, tops_in, tops_out, AtHome, InLot, AreShares, AreOut, AllReady, AllTell}
 use Rattle.level_work.proofs.Prelude.{AreUnder, InNone, SameShares, Leasing, Item, Fate, Order, Lot, exact_unsigned_eq, longer}
-use Rattle.level_work.proofs.Giving.{get_set_same, get_set_other, length_set, map_set}
+use Rattle.level_work.proofs.Giving.{get_set_same, get_set_other, length_set, map_set, shares_set}
 use Rattle.level_work.proofs.Homes.{none_out, none_counted, all_left}
 use Rattle.level_work.proofs.Lent.{item_of, can_lease, is_ready}
 use Rattle.level_work.proofs.Likes.{likes, likes_back, shares_over, same_place}
-use Rattle.level_work.proofs.Working.{same_some, item_at}
+use Rattle.level_work.proofs.Working.{not_less, other_number, same_some, item_at}
 
 all_of : {X : Type 0} (f : X → Bool) (xs : List X) → ((i : ℕ) (x : X) → slice_get xs i ≡ Some x → f x ≡ true) → list_all f xs ≡ true
 all_of f [] h = refl
@@ -22,12 +22,6 @@ all_both f (x ∷ xs) ys h k = elim (f x) as (λ b. f x ≡ b → (b && list_all
   | true ↦ λ _ h. all_both f xs ys h k
   | false ↦ λ _ h. h
 ] refl h
-
-pub other_number : (j n : ℕ) → eqb j n ≡ false → j ≡ n → ⊥
-other_number j n e s = absurd (false≢true (grind (arith, nat_tests)))
-
-pub not_less : (j n : ℕ) → nat_lt j n ≡ false → n ≤ j
-not_less j n e = grind (arith, nat_tests)
 
 -- what stands in a list in which one place was written
 pub data Written {X : Type 0} (xs : List X) (i : ℕ) (new : X) (j : ℕ) (x : X) : Type 0 where
@@ -224,14 +218,6 @@ module _ {A P : Type 0} (tree : P → Option Files) (area : P → Area) (count :
         new_tree : part_tree tree new.part ≡ option_map (leased tops) t
         new_tree = ap (λ (l : Lot A P). part_tree tree l.part) is ∙ own
 
-        shares : SameShares lots (slice_set now i new)
-        shares = record {
-          actor = map_set (λ (l : Lot A P). l.actor) now i lot new at (ap (λ (l : Lot A P). l.actor) is) ∙ v.shares.actor;
-          places = map_set (λ (l : Lot A P). l.places) now i lot new at (ap (λ (l : Lot A P). l.places) is) ∙ v.shares.places;
-          fates = map_set (λ (l : Lot A P). l.fates) now i lot new at (ap (λ (l : Lot A P). l.fates) is) ∙ v.shares.fates;
-          lost = map_set (λ (l : Lot A P). l.lost) now i lot new at (ap (λ (l : Lot A P). l.lost) is) ∙ v.shares.lost;
-        }
-
         earlier : (j : ℕ) → j < i + 1 → (j ≡ i → ⊥) → j < i
         earlier j l n = elim (nat_lt j i) as (λ b. nat_lt j i ≡ b → j < i) [
           | true ↦ λ e. longer j i e
@@ -309,7 +295,7 @@ module _ {A P : Type 0} (tree : P → Option Files) (area : P → Area) (count :
         pub leased_more : Leasing (part_tree tree) (part_area area) (part_count count) (i + 1) items lots (slice_set now i new) a' t0 t'
         leased_more = record {
           len = length_set now i new ∙ v.len;
-          shares = shares;
+          shares = shares_set lots now i lot new (Some part) at is v.shares;
           rest = λ j l. get_set_other now i j new (λ e. absurd (omega (arith, e, l))) ∙ v.rest j (omega (arith, l));
           at = less ∙ ap (area_without tops) v.at ∙ ap (λ l. all_but l []) (sym (out_more now i lot new tops at later new_area));
           leased = is_under;

@@ -3,8 +3,8 @@ use Rattle.level_work.proofs.Prelude.{◌≡◌, ◌≢◌, ℕ, zero, suc, ◌+
 use Rattle.level_work.proofs.Prelude.{sym, subst, arith, nat_eq, eqb, length-append, slice_get, IsTrue, false≢true, nat_tests, slice_get_within}
 use Rattle.level_work.proofs.Prelude.{get_or_from_slice_get, list_any_at, list_any, pointwise, bytes_decides, is_within, level_of, is_root, Area, nothing_lent}
 use Rattle.level_work.proofs.Prelude.{under, is_top, is_open, in_tops, same_tops, CanLease, IsAt, AreApart, Ready, ArePaths, AreFirstPaths, IsShare, Item, Lot}
-use Rattle.level_work.proofs.Prelude.{itself, slice_end, at_itself}
-use Rattle.level_work.proofs.Working.{item_at, same_some}
+use Rattle.level_work.proofs.Prelude.{itself, slice_end, at_itself, exact_unsigned_eq}
+use Rattle.level_work.proofs.Working.{item_at, other_number, same_some}
 
 get_front : {X : Type 0} (xs : List X) (y : X) (j : ℕ) → j < length xs → slice_get (xs ++ y ∷ []) j ≡ slice_get xs j
 get_front [] y j l = absurd (omega arith)
@@ -16,15 +16,12 @@ pub one_path_more : (items : List Item) (places : List ℕ) (paths : List (List 
 one_path_more items places paths n p a h = record {
   len = length-append paths (p ∷ []) ∙ ap (λ k. k + 1) a.len;
   of_item = λ j x l at. elim (eqb j n) as (λ b. eqb j n ≡ b → slice_get (paths ++ p ∷ []) j ≡ Some x.path) [
-    | true ↦ λ is. let e = same j n is in
+    | true ↦ λ is. let e = exact_unsigned_eq j n is in
         ap (slice_get (paths ++ p ∷ [])) (e ∙ sym a.len) ∙ slice_end paths p ∙ ap Some (h x (subst (λ k. IsAt items places k x) e at))
     | false ↦ λ off. get_front paths p j (omega (arith, a.len, before j n l off)) ∙ a.of_item j x (before j n l off) at
   ] refl;
 }
   where
-    same : (j n : ℕ) → eqb j n ≡ true → j ≡ n
-    same j n e = grind (arith, nat_tests)
-
     before : (j n : ℕ) → j < n + 1 → eqb j n ≡ false → j < n
     before j n l e = grind (arith, nat_tests)
 
@@ -45,20 +42,14 @@ module _ (items : List Item) (places : List ℕ) (tops : List (List ℕ)) (s : I
   pub can_lease : CanLease nothing_lent tops
   can_lease = record {
     distinct = λ i j p h k. elim (eqb i j) as (λ b. eqb i j ≡ b → i ≡ j) [
-      | true ↦ λ is. same i j is
-      | false ↦ λ off. absurd (clash i j p h k (other i j off))
+      | true ↦ λ is. exact_unsigned_eq i j is
+      | false ↦ λ off. absurd (clash i j p h k (other_number i j off))
     ] refl;
     one_level = λ i j x y h k. let u = item_of i x h in let v = item_of j y k in
         sym (ap level_of u.1.1) ∙ s.one_level i j u.0 v.0 u.1.0 v.1.0 ∙ ap level_of v.1.1;
     are_open = λ i x h. let u = item_of i x h in ap not (sym (ap is_root u.1.1) ∙ s.no_root i u.0 u.1.0);
   }
     where
-      same : (j n : ℕ) → eqb j n ≡ true → j ≡ n
-      same j n e = grind (arith, nat_tests)
-
-      other : (j n : ℕ) → eqb j n ≡ false → j ≢ n
-      other j n e = λ s. absurd (false≢true (grind (arith, nat_tests)))
-
       clash : (i j : ℕ) (p : List ℕ) → slice_get tops i ≡ Some p → slice_get tops j ≡ Some p → i ≢ j → ⊥
       clash i j p h k off = let u = item_of i p h in let v = item_of j p k in
           false≢true (sym (s.apart i j u.0 v.0 off u.1.0 v.1.0) ∙ ap (λ r. is_within r v.0.path) (u.1.1 ∙ sym v.1.1) ∙ itself v.0.path)

@@ -1,11 +1,11 @@
 -- One level by several actors, from what each share did.
 use Rattle.level_work.proofs.Prelude.{◌≡◌, ◌≢◌, ◌⊎◌, inl, inr, ℕ, true, false, List, [], Option, Some, refl, ap, ◌∙◌, sym, subst, arith, nat_eq, eqb, slice_get}
-use Rattle.level_work.proofs.Prelude.{false≢true, nat_tests, slice_get_within, get_or_from_slice_get, list_any_at, get, pointwise, bytes_decides, is_within}
+use Rattle.level_work.proofs.Prelude.{false≢true, slice_get_within, get_or_from_slice_get, list_any_at, get, pointwise, bytes_decides, is_within}
 use Rattle.level_work.proofs.Prelude.{level_of, Files, Area, in_tops, tops_of, Deed, at_and_under, AreItems, FailsWith, OneLevel, IsAt, ArePaths, Dealt}
-use Rattle.level_work.proofs.Prelude.{AreShares, InNone, Comes, stays, comes, AllBack, Item, Fate, Order, Lot, deeper, some_bytes, a_top}
+use Rattle.level_work.proofs.Prelude.{AreShares, InNone, Comes, stays, comes, AllBack, Item, Fate, Order, Lot, exact_unsigned_eq, deeper, some_bytes, a_top}
 use Rattle.level_work.specs.declared.items.Fate.TheVariants as fate
 use Rattle.level_work.proofs.Frames.{same_at}
-use Rattle.level_work.proofs.Working.{same_some, item_at}
+use Rattle.level_work.proofs.Working.{same_some, item_at, other_number}
 
 module _ {A P : Type 0} (tree : Option P → Option Files) (area : Option P → Area) where
   -- a share that is leased and was worked on, over the map before the level
@@ -60,17 +60,11 @@ module _ {A P : Type 0} (tree : Option P → Option Files) (area : Option P → 
         ∙ elim (eqb j i) as (λ b. eqb j i ≡ b → get own' q ≡ get own q) [
           | true ↦ λ is. ap (λ (m : Files). get m q)
               (same_some own' own (sym tells'
-              ∙ ap (λ (l : Lot A P). tree l.part) (same_some lot' lot (sym here' ∙ ap (slice_get lots) (same j i is) ∙ here)) ∙ tells))
+              ∙ ap (λ (l : Lot A P). tree l.part) (same_some lot' lot (sym here' ∙ ap (slice_get lots) (exact_unsigned_eq j i is) ∙ here)) ∙ tells))
           | false ↦ λ off. let y = owner j lot' q here' in' in
-              absurd (false≢true (sym (s.apart i j t y.place x y.item (λ e. other j i off (sym e.0))
+              absurd (false≢true (sym (s.apart i j t y.place x y.item (λ e. other_number j i off (sym e.0))
               (record { lot = lot; is_lot = here; at = at }) (record { lot = lot'; is_lot = here'; at = y.at }) q on) ∙ y.within))
         ] refl
-      where
-        same : (j n : ℕ) → eqb j n ≡ true → j ≡ n
-        same j n e = grind (arith, nat_tests)
-
-        other : (j n : ℕ) → eqb j n ≡ false → j ≡ n → ⊥
-        other j n e s = absurd (false≢true (grind (arith, nat_tests)))
 
     -- an item whose parent failed is in no part
     not_dealt : (k : ℕ) (x : Item) → slice_get items k ≡ Some x → FailsWith o items old x → Dealt lots k → ⊥

@@ -1,15 +1,7 @@
 -- Lots that have the same shares.
 use Rattle.level_work.proofs.Prelude.{◌≡◌, ◌⊎◌, inl, inr, ℕ, zero, suc, List, [], ◌∷◌, map, Some, refl, ap, ◌∙◌, sym, subst, slice_get, IsAt, InLot, Dealt}
 use Rattle.level_work.proofs.Prelude.{AreShares, SameShares, Stored, Item, Fate, Order, Lot}
-use Rattle.level_work.proofs.Working.{same_some}
-
-first : {Y : Type 0} → Y → List Y → Y
-first d [] = d
-first d (y ∷ ys) = y
-
-others : {Y : Type 0} → List Y → List Y
-others [] = []
-others (y ∷ ys) = ys
+use Rattle.level_work.proofs.Working.{first, others, same_some}
 
 pub record At {X Y : Type 0} (f : X → Y) (xs : List X) (i : ℕ) (v : Y) : Type 0 where
   pub it : X

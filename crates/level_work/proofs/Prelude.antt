@@ -34,14 +34,15 @@ pub use Rattle.outside.specs.Writes.{Area, SameBut, all_but, is_apart, is_open, 
 pub use Rattle.entry_pages.proofs.Inverse.{slice_end}
 pub use Rattle.level_work.specs.Acts.{Alike, AllShow, Deed, IsDone, MakesDirs, at_and_under}
 pub use Rattle.level_work.specs.Chain.{ActedIsChain, AllBelow, OneLevel, is_done_path, is_level_done, level_at, mark_at}
-pub use Rattle.level_work.specs.Counts.{BlamedAll, NoneAtEnd, NoneFell, is_failed}
+pub use Rattle.level_work.specs.Counts.{BlamedAll, NoneAtEnd, NoneFell, is_done, is_failed}
 pub use Rattle.level_work.specs.Fates.{ComesAt, EachMayCome, MayCome, is_on, place_of}
 pub use Rattle.level_work.specs.Levels.{Acted, AreItems, FailsWith, HasFailedParent, HasFate, ParentsFail, SameButItems, StandIn, found, is_item, left, with_at}
+pub use Rattle.level_work.specs.PathSets.{has_path}
 pub use Rattle.level_work.specs.Private.Coming.{Came, CameSofar, HaveCome, LevelCame, OneCame}
 pub use Rattle.level_work.specs.Private.Crews.{AllBack, AllReady, AllTell, AreOut, AreShares, AreUnder, AtHome, BlamedMore, Comes, Dealt, InLot, InNone}
 pub use Rattle.level_work.specs.Private.Crews.{SameActors, SameSeats, SameShares, ShowAll, Stored, comes, stays, tops_in, tops_out}
 pub use Rattle.level_work.specs.Private.Dealing.{AreByLevel, AreFailed, AreInTurn, AreOnLevel, DealsOne, DealtTo, FailedAt, In, IsAmong, IsFresh, Knows}
-pub use Rattle.level_work.specs.Private.Dealing.{dealt_to, has_path, left_out}
+pub use Rattle.level_work.specs.Private.Dealing.{dealt_to, left_out}
 pub use Rattle.level_work.specs.Private.Giving.{Giving}
 pub use Rattle.level_work.specs.Private.Leasing.{Leasing}
 pub use Rattle.level_work.specs.Private.Lots.{AreApart, Blamed, HasWorked, IsAt, Keeps, Ready, SameButFirst, Stepped, Stopped, Upto, WorkedOn, part_area}

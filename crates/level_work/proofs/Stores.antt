@@ -1,14 +1,13 @@
 -- Fates stored, and failed paths noted.
 use Rattle.level_work.proofs.Prelude.{◌≡◌, ◌≢◌, ◌⊎◌, inl, inr, ℕ, zero, suc, ◌+◌, ◌<◌, ◌≤◌, Bool, true, false, cond, ◌||◌, List, [], ◌∷◌, length, take, Some}
 use Rattle.level_work.proofs.Prelude.{refl, ap, ◌∙◌, sym, arith, eqb, nat_eq, nat_lt, slice_get, slice_set, false≢true, or_right, slice_get_within, sum_by-cons}
-use Rattle.level_work.proofs.Prelude.{sum_by-append, count_by, sum_by, pointwise, bytes_decides, level_of, itself, is_failed, TellsLevel, AreShares, Stored}
+use Rattle.level_work.proofs.Prelude.{sum_by-append, count_by, sum_by, pointwise, bytes_decides, level_of, itself, is_done, is_failed, TellsLevel, AreShares, Stored}
 use Rattle.level_work.proofs.Prelude.{AreOnLevel, FailedAt, IsFresh, Knows, has_path, In, IsLeftOut, IsStored, AreStored, IsNoted, Notes, Item, Fate, Order}
 use Rattle.level_work.proofs.Prelude.{Lot, exact_unsigned_eq, longer}
 use Rattle.level_work.specs.declared.items.Fate.TheVariants as fate
 use Rattle.level_work.specs.declared.items.Order.TheVariants as order
 use Rattle.level_work.proofs.Giving.{get_set_same, get_set_other, length_set, split_take, take_all}
-use Rattle.level_work.proofs.Leases.{other_number, not_less}
-use Rattle.level_work.proofs.Working.{same_some, count_more}
+use Rattle.level_work.proofs.Working.{same_some, count_more, not_less, other_number}
 use Rattle.level_work.proofs.Deals.{widen}
 
 count_set : (xs : List Fate) (k : ℕ) (f : Fate) → count_by is_failed (slice_set xs k f) ≤ count_by is_failed xs + cond (is_failed f) 1 0
@@ -145,6 +144,19 @@ module _ {A P : Type 0} where
 
 pub none_noted : (items : List Item) (fates : List Fate) (places : List ℕ) (paths : List (List ℕ)) → IsNoted 0 items fates places paths paths
 none_noted items fates places paths = record { sound = λ q e. inl e; kept = λ q e. e; each = λ j k x f l. absurd (omega (arith, l)) }
+
+pub done_is : (f : Fate) → is_done f ≡ true → f ≡ fate.Done
+done_is fate.Done e = refl
+done_is fate.Failed e = absurd (false≢true e)
+done_is fate.Conflict e = absurd (false≢true e)
+done_is fate.Skipped e = absurd (false≢true e)
+done_is fate.ParentFailed e = absurd (false≢true e)
+done_is fate.Changed e = absurd (false≢true e)
+done_is fate.NotEmpty e = absurd (false≢true e)
+done_is fate.TooLong e = absurd (false≢true e)
+
+pub undone : (f : Fate) → is_done f ≡ false → f ≢ fate.Done
+undone f off e = absurd (false≢true (sym off ∙ ap is_done e))
 
 pub noted_skip : (n k : ℕ) (f : Fate) (items : List Item) (fates : List Fate) (places : List ℕ) (old now : List (List ℕ))
     → slice_get places n ≡ Some k → slice_get fates k ≡ Some f → f ≡ fate.Done → IsNoted n items fates places old now

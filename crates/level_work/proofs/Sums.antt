@@ -1,14 +1,7 @@
 -- The counts of all lots together.
 use Rattle.level_work.proofs.Prelude.{◌≡◌, ℕ, suc, ◌+◌, ◌-◌, ◌^◌, ◌<◌, ◌≤◌, List, [], ◌∷◌, map, length, Option, Some, refl, ap, arith, slice_get, sum_by-cons}
 use Rattle.level_work.proofs.Prelude.{slice_index_or, count_by, sum_by, is_failed, NoneAtEnd, Blamed, Lot}
-
-first : {Y : Type 0} → Y → List Y → Y
-first d [] = d
-first d (y ∷ ys) = y
-
-others : {Y : Type 0} → List Y → List Y
-others [] = []
-others (y ∷ ys) = ys
+use Rattle.level_work.proofs.Working.{first, others}
 
 pub same_failed : {A P : Type 0} (xs ys : List (Lot A P)) → map (λ (l : Lot A P). l.fates) ys ≡ map (λ (l : Lot A P). l.fates) xs
     → sum_by (λ (l : Lot A P). count_by is_failed l.fates.items) ys ≡ sum_by (λ (l : Lot A P). count_by is_failed l.fates.items) xs

@@ -1,11 +1,25 @@
 -- The work on a share, item by item.
-use Rattle.level_work.proofs.Prelude.{◌≡◌, ◌≢◌, ◌⊎◌, inl, inr, ℕ, zero, suc, ◌+◌, ◌<◌, true, false, cond, List, [], ◌∷◌, ◌++◌, length, Option, Some, None}
-use Rattle.level_work.proofs.Prelude.{IfSome, refl, ap, ◌∙◌, sym, subst, arith, length-append, is_some, slice_get, false≢true, slice_get_within, sum_by-append}
+use Rattle.level_work.proofs.Prelude.{◌≡◌, ◌≢◌, ◌⊎◌, inl, inr, ℕ, zero, suc, ◌+◌, ◌<◌, ◌≤◌, true, false, cond, List, [], ◌∷◌, ◌++◌, length, Option, Some, None}
+use Rattle.level_work.proofs.Prelude.{IfSome, refl, ap, ◌∙◌, sym, subst, arith, eqb, nat_lt, nat_tests, length-append, is_some, slice_get, false≢true, slice_get_within, sum_by-append}
 use Rattle.level_work.proofs.Prelude.{count_by, is_within, Files, Area, SameBut, Deed, IsDone, at_and_under, is_failed, IsAt, AreApart, SameButFirst, WorkedOn}
 use Rattle.level_work.proofs.Prelude.{Blamed, Ready, Keeps, Stepped, Stopped, Upto, HasWorked, Item, Fate, Lot}
 use Rattle.std.proofs.Common.{Ok}
 use Rattle.level_work.specs.declared.items.Fate.TheVariants as fate
 use Rattle.level_work.proofs.Frames.{one_elsewhere, same_at, apart_is_other}
+
+pub other_number : (j n : ℕ) → eqb j n ≡ false → j ≡ n → ⊥
+other_number j n e s = absurd (false≢true (grind (arith, nat_tests)))
+
+pub not_less : (j n : ℕ) → nat_lt j n ≡ false → n ≤ j
+not_less j n e = grind (arith, nat_tests)
+
+unfoldable pub first : {Y : Type 0} → Y → List Y → Y
+first d [] = d
+first d (y ∷ ys) = y
+
+unfoldable pub others : {Y : Type 0} → List Y → List Y
+others [] = []
+others (y ∷ ys) = ys
 
 held : {X : Type 0} → X → Option X → X
 held d None = d

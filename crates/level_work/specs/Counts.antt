@@ -5,23 +5,11 @@ use Rattle.level_work.specs.declared.items.Fate.TheVariants as fate
 
 abbrev pub is_failed : Fate → Bool
 is_failed fate.Failed = true
-is_failed fate.Done = false
-is_failed fate.Conflict = false
-is_failed fate.Skipped = false
-is_failed fate.ParentFailed = false
-is_failed fate.Changed = false
-is_failed fate.NotEmpty = false
-is_failed fate.TooLong = false
+is_failed _ = false
 
 abbrev pub is_done : Fate → Bool
 is_done fate.Done = true
-is_done fate.Failed = false
-is_done fate.Conflict = false
-is_done fate.Skipped = false
-is_done fate.ParentFailed = false
-is_done fate.Changed = false
-is_done fate.NotEmpty = false
-is_done fate.TooLong = false
+is_done _ = false
 
 -- as many counts, none of which fell
 pub record NoneFell (old new : List ℕ) : Type 0 where

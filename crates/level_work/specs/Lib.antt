@@ -4,3 +4,4 @@ pub mod Counts
 pub mod Chain
 pub mod Private
 pub mod Fates
+pub mod PathSets

@@ -25,7 +25,8 @@
 //! - `leasing` leases shares and gives them back.
 //! - `lots` has the work on a share.
 //! - `storing` puts the fates where they belong.
-//! - `failures` keeps the paths that failed.
+//! - `failures` keeps the paths that failed ([`Paths`]).
+//! - `fates` says which fates are `Done`, and how many.
 //! - `hosts` says which levels are worth threads.
 //! - `crews` works on one level.
 //! - `hiring` makes lots of actors and actors of lots.
@@ -55,6 +56,7 @@ mod acts;
 mod crews;
 mod dealing;
 mod failures;
+mod fates;
 mod hiring;
 mod hosts;
 mod items;
@@ -66,6 +68,8 @@ mod outcomes;
 mod storing;
 
 pub use acts::Act;
+pub use failures::Paths;
+pub use fates::number_done;
 pub use hosts::Hosts;
 pub use items::{Fate, Item, Order};
 pub use laws::acted_is_chain;

@@ -1,5 +1,5 @@
 //! The fates of a level, stored.
-ghost use Rattle.std.specs.Prelude.{◌≡◌, ◌<◌, ◌≢◌, ℕ, true, false, length, Some, OnOk, slice_get};
+ghost use Rattle.std.specs.Prelude.{◌≡◌, ◌<◌, ℕ, length, Some, OnOk, slice_get};
 ghost use Rattle.level_work.specs.Levels.{AreItems};
 ghost use Rattle.level_work.specs.Private.Crews.{AreShares, Stored};
 ghost use Rattle.level_work.specs.Private.Dealing.{AreOnLevel, In};
@@ -93,25 +93,9 @@ fn note_each(
 {
     for t in 0..places.len() {
         let k = places[t];
-        if !is_done(fates[k]) {
+        if !fates[k].is_done() {
             failed.add(&items[k].path)?;
         }
     }
     Ok(())
-}
-
-fn is_done(fate: Fate) -> bool
-    ensures yes { result ≡ true → fate ≡ Fate.Done }
-    ensures no { result ≡ false → fate ≢ Fate.Done }
-{
-    match fate {
-        Fate::Done => true,
-        Fate::Failed
-        | Fate::Conflict
-        | Fate::Skipped
-        | Fate::ParentFailed
-        | Fate::Changed
-        | Fate::NotEmpty
-        | Fate::TooLong => false,
-    }
 }

@@ -5,6 +5,7 @@ use Rattle.std.specs.Cmp.Lexicographic.{pointwise}
 use Rattle.path_text.specs.Path.{level_of}
 use Rattle.level_work.specs.Fates.{is_on, place_of}
 use Rattle.level_work.specs.Levels.{FailsWith}
+use Rattle.level_work.specs.PathSets.{has_path}
 use Rattle.level_work.specs.Private.Crews.{Dealt}
 use Rattle.level_work.specs.declared.items.Item.{Item}
 use Rattle.level_work.specs.declared.items.Fate.{Fate}
@@ -31,9 +32,6 @@ pub record AreOnLevel (n level : ℕ) (items : List Item) (places : List ℕ) : 
 -- the same, of each level
 abbrev pub AreByLevel : ℕ → List Item → List (List ℕ) → Type 0
 AreByLevel n items levels = (level : ℕ) (places : List ℕ) → slice_get levels level ≡ Some places → AreOnLevel n level items places
-
-abbrev pub has_path : List (List ℕ) → List ℕ → Bool
-has_path paths q = list_any (λ p. pointwise nat_eq q p) paths
 
 -- an item with this path did not come to `Done`
 pub record FailedAt (items : List Item) (fates : List Fate) (q : List ℕ) : Type 0 where

@@ -2,7 +2,8 @@
 use Rattle.std.specs.Prelude.{⊤, ◌≡◌, ◌≢◌, ◌⊎◌, ◌<◌, ◌≤◌, ◌+◌, ℕ, true, List, length, take, Some, slice_get}
 use Rattle.std.specs.List.{count_by, sum_by}
 use Rattle.level_work.specs.Counts.{is_failed}
-use Rattle.level_work.specs.Private.Dealing.{IsAmong, FailedAt, In, has_path}
+use Rattle.level_work.specs.PathSets.{has_path}
+use Rattle.level_work.specs.Private.Dealing.{IsAmong, FailedAt, In}
 use Rattle.level_work.specs.declared.items.Item.{Item}
 use Rattle.level_work.specs.declared.items.Fate.{Fate}
 use Rattle.level_work.specs.declared.items.Fate.TheVariants as fate
