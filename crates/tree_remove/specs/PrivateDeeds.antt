@@ -21,11 +21,7 @@ removal_refusal entry files path = if is_of kind.Dir entry.stat then remove_dir_
 abbrev pub told_fate : WriteError → Fate
 told_fate write.Failed = fate.Failed
 told_fate write.NotEmpty = fate.NotEmpty
-told_fate write.Absent = fate.Changed
-told_fate write.WrongKind = fate.Changed
-told_fate write.Exists = fate.Changed
-told_fate write.NoParent = fate.Changed
-told_fate write.OutOfMemory = fate.Changed
+told_fate _ = fate.Changed
 
 -- which fate a removal may have, and the nodes that it leaves at and under its path
 abbrev pub Removal : Deed

@@ -1,10 +1,8 @@
 //! The fates of chosen paths.
-ghost use Rattle.std.specs.Prelude.{◌≡◌, ◌+◌, ◌<◌, length, Some, slice_get, if◌then◌else◌};
-ghost use Rattle.level_work.specs.Counts.{is_done};
-ghost use Rattle.std.specs.List.{count_by};
+ghost use Rattle.std.specs.Prelude.{◌≡◌, ◌<◌, length, Some, slice_get};
 ghost use Rattle.std.specs.Option.{option_map};
 
-use level_work::Fate;
+use level_work::{Fate, number_done};
 use path_text::Path;
 use std::marker::Model;
 
@@ -61,34 +59,6 @@ impl RemoveReport {
     pub fn removed(&self) -> u64
         ensures { result ≡ self.now.1 }
     {
-        number_gone(&self.rows)
-    }
-}
-
-// How many of the paths are gone.
-fn number_gone(rows: &[(Path, Fate)]) -> u64
-    ensures { result ≡ count_by (λ row. is_done row.1) rows.now }
-{
-    let mut gone = 0;
-    for row in rows {
-        gone = with_fate(gone, row.1);
-    }
-    gone
-}
-
-// The number of gone paths, with one of this fate too.
-fn with_fate(gone: u64, fate: Fate) -> u64
-    requires { gone < 18446744073709551615 }
-    ensures { result ≡ (if is_done fate then gone + 1 else gone) }
-{
-    match fate {
-        Fate::Done => gone + 1,
-        Fate::Failed
-        | Fate::Conflict
-        | Fate::Skipped
-        | Fate::ParentFailed
-        | Fate::Changed
-        | Fate::NotEmpty
-        | Fate::TooLong => gone,
+        number_done(&self.rows)
     }
 }
