@@ -57,11 +57,11 @@ pub use Rattle.level_work.proofs.Crewed.{map_get}
 pub use Rattle.level_work.proofs.Giving.{length_set, map_set, split_drop_suc}
 pub use Rattle.level_work.proofs.Hands.{if_ok}
 pub use Rattle.level_work.proofs.Sets.{is_added, is_there, turn}
+pub use Rattle.level_work.proofs.Stores.{done_is}
 pub use Rattle.level_work.proofs.Working.{both_told, same_some}
 pub use Rattle.level_work.specs.Counts.{is_done, is_failed}
 pub use Rattle.level_work.specs.declared.items.Fate.{Fate}
 pub use Rattle.tree_copy.proofs.Comes.{weaker}
-pub use Rattle.tree_copy.proofs.Copiers.{done_is}
 pub use Rattle.tree_copy.proofs.Copies.{together}
 pub use Rattle.tree_copy.proofs.Ends.{Fine, Goes, all_at, at_of, goes, meets, no_root, one_over, one_path, target_by, under_kept}
 pub use Rattle.tree_copy.proofs.Fits.{Ascend, ascends, once, told_dir, told_there}

@@ -243,25 +243,21 @@ module _ (pairs : List Pair) (marks : List Bool) (es : List Entry) (outs : List 
 
 -- what is so over all files
 
+settles : (g : Fate) → g ≢ fate.ParentFailed → (is_tried (settled_by false g) ≡ true) × (settled_by true g ≡ fate.Skipped)
+settles fate.ParentFailed off = absurd (off refl)
+settles fate.Done off = (refl, refl)
+settles fate.Failed off = (refl, refl)
+settles fate.Conflict off = (refl, refl)
+settles fate.Skipped off = (refl, refl)
+settles fate.Changed off = (refl, refl)
+settles fate.NotEmpty off = (refl, refl)
+settles fate.TooLong off = (refl, refl)
+
 tried_by : (g : Fate) → g ≢ fate.ParentFailed → is_tried (settled_by false g) ≡ true
-tried_by fate.Done off = refl
-tried_by fate.Failed off = refl
-tried_by fate.Conflict off = refl
-tried_by fate.Skipped off = refl
-tried_by fate.ParentFailed off = absurd (off refl)
-tried_by fate.Changed off = refl
-tried_by fate.NotEmpty off = refl
-tried_by fate.TooLong off = refl
+tried_by g off = (settles g off).0
 
 pub skipped_by : (g : Fate) → g ≢ fate.ParentFailed → settled_by true g ≡ fate.Skipped
-skipped_by fate.Done off = refl
-skipped_by fate.Failed off = refl
-skipped_by fate.Conflict off = refl
-skipped_by fate.Skipped off = refl
-skipped_by fate.ParentFailed off = absurd (off refl)
-skipped_by fate.Changed off = refl
-skipped_by fate.NotEmpty off = refl
-skipped_by fate.TooLong off = refl
+skipped_by g off = (settles g off).1
 
 -- a link whose text is not known is not made
 unmade : (untold : Bool) (g : Fate) → (is_done g && untold) ≡ false → (untold && is_done (settled_by false g)) ≡ false

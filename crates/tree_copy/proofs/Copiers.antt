@@ -2,20 +2,10 @@
 use Rattle.tree_copy.proofs.Prelude.{◌≡◌, ◌⊎◌, inl, inr, ℕ, Bool, true, false, List, [], Option, Some, None, IfSome, refl, ap, ◌∙◌, sym, subst, is_some, Result}
 use Rattle.tree_copy.proofs.Prelude.{Ok, Err, IfOk, false≢true, get, OutOfMemory, Files, Node, is_dir, is_file, SameBut, new_file, new_link, Stat, Entry}
 use Rattle.tree_copy.proofs.Prelude.{size_by, IsDone, at_and_under, Fate, is_done, ByReader, Filled, IsDirMade, IsFilled, IsPlaced, Placed, Spared, CopyKind}
-use Rattle.tree_copy.proofs.Prelude.{CopyLink, CopyOne, CopyTold, Differ, LinkBy, MakeDir, MakeFile, is_link, get_here}
+use Rattle.tree_copy.proofs.Prelude.{CopyLink, CopyOne, CopyTold, Differ, LinkBy, MakeDir, MakeFile, done_is, is_link, get_here}
 use Rattle.outside.specs.declared.trees.Kind.TheVariants as kind
 use Rattle.level_work.specs.declared.items.Fate.TheVariants as fate
 use Rattle.tree_copy.proofs.Puts.{mapped}
-
-pub done_is : (f : Fate) → is_done f ≡ true → f ≡ fate.Done
-done_is fate.Done e = refl
-done_is fate.Failed e = absurd (false≢true e)
-done_is fate.Conflict e = absurd (false≢true e)
-done_is fate.Skipped e = absurd (false≢true e)
-done_is fate.ParentFailed e = absurd (false≢true e)
-done_is fate.Changed e = absurd (false≢true e)
-done_is fate.NotEmpty e = absurd (false≢true e)
-done_is fate.TooLong e = absurd (false≢true e)
 
 -- what was told of the path is so of the tree at and under it
 

@@ -71,29 +71,21 @@ link_some : (o : Option Node) → is_link o ≡ true → is_some o ≡ true
 link_some None e = absurd (false≢true e)
 link_some (Some n) e = refl
 
-dir_or_link : (o : Option Node) → is_dir o ≡ true → is_link o ≡ true → ⊥
-dir_or_link None d l = false≢true d
-dir_or_link (Some n) d l = by n.body d l
+-- a directory is neither a file nor a link
+dir_alone : (o : Option Node) → is_dir o ≡ true → (is_file o ≡ false) × (is_link o ≡ false)
+dir_alone None d = absurd (false≢true d)
+dir_alone (Some n) d = by n.body d
   where
-    by : (b : Body) → Rattle.outside.specs.Tree.is_dir_body b ≡ true → is_some (Rattle.outside.specs.Tree.text_of b) ≡ true → ⊥
-    by (dir far) d l = false≢true l
-    by (file bytes) d l = false≢true d
-    by (link text) d l = false≢true d
-    by other d l = false≢true d
+    by : (b : Body) → Rattle.outside.specs.Tree.is_dir_body b ≡ true →
+        (Rattle.outside.specs.Tree.is_file_body b ≡ false) × (is_some (Rattle.outside.specs.Tree.text_of b) ≡ false)
+    by (dir far) d = (refl, refl)
+    by (file bytes) d = absurd (false≢true d)
+    by (link text) d = absurd (false≢true d)
+    by other d = absurd (false≢true d)
 
 file_some : (o : Option Node) → is_file o ≡ true → is_some o ≡ true
 file_some None e = absurd (false≢true e)
 file_some (Some n) e = refl
-
-not_both : (o : Option Node) → is_dir o ≡ true → is_file o ≡ true → ⊥
-not_both None d f = false≢true d
-not_both (Some n) d f = by n.body d f
-  where
-    by : (b : Body) → Rattle.outside.specs.Tree.is_dir_body b ≡ true → Rattle.outside.specs.Tree.is_file_body b ≡ true → ⊥
-    by (dir far) d f = false≢true f
-    by (file bytes) d f = false≢true d
-    by (link text) d f = false≢true d
-    by other d f = false≢true d
 
 kept_dir : (source o : Option Node) → is_some o ≡ true → IsCopyOf kind.Dir source o o
 kept_dir source None s = absurd (false≢true s)
@@ -136,7 +128,7 @@ module _ (before after : Files) (e : Entry) (p : List ℕ) where
       (found order.TopDown p before after) → ⊥
   no_change size (inl l) = absurd (omega (arith, l, size))
   no_change size (inr (s, inl n)) = none_not (get before p) (there s) n
-  no_change size (inr (s, inr d)) = not_both (get before p) (ap is_dir (sym (get_here p before)) ∙ d.0) d.1
+  no_change size (inr (s, inr d)) = false≢true (sym (dir_alone (get before p) (ap is_dir (sym (get_here p before)) ∙ d.0)).0 ∙ d.1)
 
   file_told : size_by e.stat ≡ length (content (get before e.path)) → (g : Fate) → g ≢ fate.ParentFailed →
       MakeFile before p e g (found order.TopDown p before after) (left order.TopDown p before after) →
@@ -166,7 +158,7 @@ module _ (before after : Files) (e : Entry) (p : List ℕ) where
 
   no_difference : Differ is_link before p (found order.TopDown p before after) → ⊥
   no_difference (s, inl n) = none_not (get before p) (there s) n
-  no_difference (s, inr d) = dir_or_link (get before p) (ap is_dir (sym (get_here p before)) ∙ d.0) d.1
+  no_difference (s, inr d) = false≢true (sym (dir_alone (get before p) (ap is_dir (sym (get_here p before)) ∙ d.0)).1 ∙ d.1)
 
   made_link : (text : List ℕ) → link_at (get before e.path) ≡ Some text → (g : Fate) →
       MakeLink text before p e g (found order.TopDown p before after) (left order.TopDown p before after) →

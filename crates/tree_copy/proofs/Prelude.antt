@@ -51,6 +51,7 @@ pub use Rattle.flat_list.specs.Spelling.{paths}
 pub use Rattle.level_work.proofs.Frames.{get_at, get_here}
 pub use Rattle.level_work.proofs.Giving.{split_drop}
 pub use Rattle.level_work.proofs.Hands.{if_ok}
+pub use Rattle.level_work.proofs.Stores.{done_is}
 pub use Rattle.level_work.proofs.Unfailed.{unfailed}
 pub use Rattle.level_work.proofs.Working.{both_told, same_some, some_at}
 pub use Rattle.level_work.specs.Acts.{Alike, AllShow, IsDone, MakesDirs, at_and_under}
@@ -65,10 +66,10 @@ pub use Rattle.tree_copy.specs.Copying.{early, ends_of, is_target, is_tried, is_
 pub use Rattle.tree_copy.specs.Laws.{FineEntriesAreCopied, IsFineEntry, TargetsAreApart, TargetsAreLong, is_in_source}
 pub use Rattle.tree_copy.specs.Looking.{IsDue}
 pub use Rattle.tree_copy.specs.Placing.{IsPair, PlacedAreApart, has_targets, overlap, pairs_in, placed, target_in}
-pub use Rattle.tree_copy.specs.PrivateActs.{AllMayCopy, ByReader, Filled, HasFile, IsDirMade, IsFilled, IsPlaced, IsReplaced, MadeAnew, MayCopy, Placed}
+pub use Rattle.tree_copy.specs.PrivateActs.{AllMayCopy, ByReader, Filled, HasFile, IsDirMade, IsFilled, IsPlaced, IsReplaced, MadeAnew, MayCopy}
 pub use Rattle.tree_copy.specs.PrivateActs.{ShowsFilled, ShowsPlaced, ShowsReplaced, ShowsSpared, Spared, TellsFate, is_taken, look_fate}
 pub use Rattle.tree_copy.specs.PrivateDeeds.{CopyKind, CopyLink, CopyOne, CopyTold, Differ, Holds, LeaveLink, LinkBy, MakeDir, MakeFile, MakeLink, PassOver}
-pub use Rattle.tree_copy.specs.PrivateDeeds.{is_link}
+pub use Rattle.tree_copy.specs.PrivateDeeds.{Placed, is_link}
 pub use Rattle.tree_copy.specs.PrivateNodes.{Looked, ShowsLeft, call_of, is_old_of, kind_of, node_of}
 pub use Rattle.tree_copy.specs.PrivateSettling.{any_odd, bytes_of, fates_of, fitting, gain, has_room, is_odd, is_other, item_of, items_of, placed_of, rest_of}
 pub use Rattle.tree_copy.specs.PrivateSettling.{settled, settled_by}

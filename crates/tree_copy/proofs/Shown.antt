@@ -5,14 +5,13 @@ use Rattle.tree_copy.proofs.Prelude.{AllByRecursion, filter, OutOfMemory, Asks, 
 use Rattle.tree_copy.proofs.Prelude.{is_of, size_by, Item, Fate, Pair, HasCause, IsWritten, LookMeans, ReadMeans, RefusalMeans, Shows, ShowsCopy, ShowsFate}
 use Rattle.tree_copy.proofs.Prelude.{ShowsWhy, WasWritten, copied, stopped, untold, look_means, read_means, refusal_means, is_done, is_tried, is_untold}
 use Rattle.tree_copy.proofs.Prelude.{target_of, treated, AllMayCopy, MayCopy, ShowsFilled, ShowsPlaced, ShowsReplaced, ShowsSpared, is_taken, ShowsLeft}
-use Rattle.tree_copy.proofs.Prelude.{any_odd, has_room, is_odd, is_other, item_of, items_of, settled, settled_by, same_some}
+use Rattle.tree_copy.proofs.Prelude.{any_odd, has_room, is_odd, is_other, item_of, items_of, settled, settled_by, same_some, done_is}
 use Rattle.std.proofs.Common.{is_none}
 use Rattle.outside.specs.Asked as asked
 use Rattle.outside.specs.declared.plots.WriteError.TheVariants as write
 use Rattle.outside.specs.declared.trees.Kind.TheVariants as kind
 use Rattle.outside.specs.declared.trees.ReadError.TheVariants as read
 use Rattle.level_work.specs.declared.items.Fate.TheVariants as fate
-use Rattle.tree_copy.proofs.Copiers.{done_is}
 use Rattle.tree_copy.proofs.Comes.{Comes, Row, items_by, long, tried, under, weaker}
 
 -- which fates answers mean

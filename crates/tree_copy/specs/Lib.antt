@@ -3,6 +3,7 @@ pub mod Copying
 pub mod Laws
 pub mod Looking
 pub mod Placing
+pub mod Prelude
 pub mod PrivateActs
 pub mod PrivateDeeds
 pub mod PrivateNodes

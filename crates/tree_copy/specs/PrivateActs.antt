@@ -20,7 +20,7 @@ use Rattle.level_work.specs.declared.items.Item.{Item}
 use Rattle.level_work.specs.declared.items.Fate.{Fate}
 use Rattle.level_work.specs.declared.items.Fate.TheVariants as fate
 use Rattle.tree_copy.specs.Causes.{EndsAt, LookMeans, ReadMeans, RefusalMeans, Shows, ShowsWhy, WasWritten}
-use Rattle.tree_copy.specs.PrivateDeeds.{Differ, Holds, MakeDir, is_link}
+use Rattle.tree_copy.specs.PrivateDeeds.{Differ, Holds, MakeDir, Placed, is_link}
 
 -- the path is a top of the part, and it may write there
 pub record IsOpenTop (area : Area) (path : List ℕ) : Type 0 where
@@ -60,22 +60,12 @@ IsDirMade told path result before after = (entry : Entry) → IsDone (ByReader M
 -- whether a refusal says that a node is there already
 abbrev pub is_taken : WriteError → Bool
 is_taken write.Exists = true
-is_taken write.Failed = false
-is_taken write.NoParent = false
-is_taken write.WrongKind = false
-is_taken write.NotEmpty = false
-is_taken write.Absent = false
-is_taken write.OutOfMemory = false
+is_taken _ = false
 
 -- the fate that a refusal means, if it is one
 abbrev pub told_fate : WriteError → Fate
 told_fate write.Failed = fate.Failed
-told_fate write.Exists = fate.Changed
-told_fate write.NoParent = fate.Changed
-told_fate write.WrongKind = fate.Changed
-told_fate write.NotEmpty = fate.Changed
-told_fate write.Absent = fate.Changed
-told_fate write.OutOfMemory = fate.Changed
+told_fate _ = fate.Changed
 
 abbrev pub TellsFate : WriteError → Result Fate OutOfMemory → Type 0
 TellsFate refused result = IfOk result (λ f. (f ≡ told_fate refused) × (refused ≢ write.OutOfMemory))
@@ -99,18 +89,6 @@ MadeAnew node path fate.TooLong before after = ⊥
 pub record IsReplaced (node : Node) (path : List ℕ) (result : Result Fate OutOfMemory) (before after : Files) : Type 0 where
   pub others : SameBut path before after
   pub answers : IfOk result (λ f. MadeAnew node path f before after)
-
--- this node is at the path, in place of none or of an old one of its kind
-abbrev pub Placed : Node → (is_old : Option Node → Bool) → Files → List ℕ → Fate → Files → Files → Type 0
-Placed node is_old seen path fate.Done before after = ((get before path ≡ None) ⊎ (is_old (get seen path) ≡ true)) × (get after path ≡ Some node)
-Placed node is_old seen path fate.Conflict before after =
-    (is_some (get before path) ≡ true) × (is_some (get seen path) ≡ true) × (is_old (get seen path) ≡ false) × (after ≡ before)
-Placed node is_old seen path fate.Changed before after = Differ is_old seen path before
-Placed node is_old seen path fate.Failed before after = ⊤
-Placed node is_old seen path fate.NotEmpty before after = ⊥
-Placed node is_old seen path fate.Skipped before after = ⊥
-Placed node is_old seen path fate.ParentFailed before after = ⊥
-Placed node is_old seen path fate.TooLong before after = ⊥
 
 pub record IsPlaced (node : Node) (is_old : Option Node → Bool) (told : Option Files) (path : List ℕ) (result : Result Fate OutOfMemory)
     (before after : Files) : Type 0 where

@@ -8,6 +8,7 @@ use Rattle.outside.specs.declared.trees.Kind.TheVariants as kind
 use Rattle.outside.specs.declared.trees.Stat.{Stat}
 use Rattle.entry_pages.specs.Entries.{size_by}
 use Rattle.level_work.specs.Acts.{Deed}
+use Rattle.level_work.specs.declared.items.Fate.{Fate}
 use Rattle.level_work.specs.declared.items.Fate.TheVariants as fate
 
 -- A directory is made, or the one that is there is kept. `seen` is the tree that the actor's reader shows
@@ -51,18 +52,21 @@ MakeFile seen path entry fate.Skipped before after = ⊥
 MakeFile seen path entry fate.ParentFailed before after = ⊥
 MakeFile seen path entry fate.TooLong before after = ⊥
 
+-- this node is at the path, in place of none or of an old one of its kind
+abbrev pub Placed : Node → (is_old : Option Node → Bool) → Files → List ℕ → Fate → Files → Files → Type 0
+Placed node is_old seen path fate.Done before after = ((get before path ≡ None) ⊎ (is_old (get seen path) ≡ true)) × (get after path ≡ Some node)
+Placed node is_old seen path fate.Conflict before after =
+    (is_some (get before path) ≡ true) × (is_some (get seen path) ≡ true) × (is_old (get seen path) ≡ false) × (after ≡ before)
+Placed node is_old seen path fate.Changed before after = Differ is_old seen path before
+Placed node is_old seen path fate.Failed before after = ⊤
+Placed node is_old seen path fate.NotEmpty before after = ⊥
+Placed node is_old seen path fate.Skipped before after = ⊥
+Placed node is_old seen path fate.ParentFailed before after = ⊥
+Placed node is_old seen path fate.TooLong before after = ⊥
+
 -- a link is made anew, with this text
 abbrev pub MakeLink : List ℕ → Files → Deed
-MakeLink text seen path entry fate.Done before after =
-    ((get before path ≡ None) ⊎ (is_link (get seen path) ≡ true)) × (get after path ≡ Some (new_link text))
-MakeLink text seen path entry fate.Conflict before after =
-    (is_some (get before path) ≡ true) × (is_some (get seen path) ≡ true) × (is_link (get seen path) ≡ false) × (after ≡ before)
-MakeLink text seen path entry fate.Changed before after = Differ is_link seen path before
-MakeLink text seen path entry fate.Failed before after = ⊤
-MakeLink text seen path entry fate.NotEmpty before after = ⊥
-MakeLink text seen path entry fate.Skipped before after = ⊥
-MakeLink text seen path entry fate.ParentFailed before after = ⊥
-MakeLink text seen path entry fate.TooLong before after = ⊥
+MakeLink text seen path entry f before after = Placed (new_link text) is_link seen path f before after
 
 -- a link whose text is not known is not made. A node of another kind is in its way
 abbrev pub LeaveLink : Files → Deed

@@ -5,11 +5,7 @@ ghost use Rattle.flat_list.specs.Prelude.{is_open, SameBut};
 ghost use Rattle.outside.specs.Writes.{new_file};
 ghost use Rattle.outside.specs.Asked as asked;
 ghost use Rattle.entry_pages.specs.Entries.{size_by};
-ghost use Rattle.level_work.specs.Acts.{IsDone};
-ghost use Rattle.tree_copy.specs.Causes.{ShowsFate, WasWritten};
-ghost use Rattle.level_work.specs.Counts.{is_done};
-ghost use Rattle.tree_copy.specs.PrivateActs.{ByReader, IsFilled, IsOpenTop, ShowsFilled, Stepped};
-ghost use Rattle.tree_copy.specs.PrivateDeeds.{MakeFile};
+ghost use Rattle.tree_copy.specs.Prelude.{IsDone, ShowsFate, WasWritten, ByReader, IsFilled, IsOpenTop, ShowsFilled, Stepped, MakeFile};
 
 use crate::anew::{NewNode, placed};
 use crate::making::fate_of;
@@ -38,7 +34,7 @@ pub(crate) fn file_made<P: Plot, R: Tree>(
 {
     let size = size_of(entry);
     let fate = placed(alloc, reader, part, path, &NewNode::File(&entry.path))?;
-    if is_done(fate) {
+    if fate.is_done() {
         filled(alloc, reader, buffer, part, &entry.path, path, size)
     } else {
         Ok(fate)
@@ -53,12 +49,6 @@ fn size_of(entry: &Entry) -> u64
         Some(stat) => stat.size,
         None => 0,
     }
-}
-
-fn is_done(fate: Fate) -> bool
-    ensures { result ≡ is_done fate }
-{
-    fate == Fate::Done
 }
 
 // Copies the bytes of the source into the empty file at the path, in pieces that the buffer holds.
@@ -101,8 +91,8 @@ fn filled<P: Plot, R: Tree>(
     Ok(Fate::Done)
 }
 
-// How many bytes to read next: all that are left, or a whole buffer.
-fn piece(left: u64, room: usize) -> usize
+/// How many bytes to read next: all that are left, or a whole buffer.
+pub fn piece(left: u64, room: usize) -> usize
     requires left { 0 < left }
     requires room { 0 < room }
     ensures some { 0 < result }

@@ -74,6 +74,7 @@ mod targets;
 mod working;
 
 pub use copying::copy;
+pub use filling::piece;
 pub use laws::{fine_entries_are_copied, placed_are_apart, targets_are_apart, targets_are_long};
 pub use pairs::{Pair, PlaceError};
 pub use placing::place;

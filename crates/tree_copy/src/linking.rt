@@ -1,9 +1,6 @@
 //! Makes a link anew, with the text of its entry.
 ghost use Rattle.std.specs.Prelude.{IfOk, IfSome};
-ghost use Rattle.level_work.specs.Acts.{IsDone};
-ghost use Rattle.tree_copy.specs.Causes.{ShowsFate};
-ghost use Rattle.tree_copy.specs.PrivateActs.{ByReader, HasLooked, IsOpenTop, ShowsSpared, Spared, Stepped};
-ghost use Rattle.tree_copy.specs.PrivateDeeds.{CopyLink};
+ghost use Rattle.tree_copy.specs.Prelude.{IsDone, ShowsFate, ByReader, HasLooked, IsOpenTop, ShowsSpared, Spared, Stepped, CopyLink};
 
 use crate::anew::{NewNode, placed};
 use crate::making::look;

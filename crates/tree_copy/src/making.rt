@@ -1,9 +1,7 @@
 //! Makes a directory, or keeps the one that is there.
 ghost use Rattle.std.specs.Prelude.{◌≡◌, ◌≢◌, if◌then◌else◌, Some, IfOk, IfSome};
 ghost use Rattle.flat_list.specs.Prelude.{Entry, is_kind};
-ghost use Rattle.tree_copy.specs.Causes.{LookMeans, ShowsFate, refusal_means};
-ghost use Rattle.tree_copy.specs.PrivateActs.{HasLooked, IsDirMade, IsOpenTop, Stepped, TellsFate, is_taken};
-ghost use Rattle.tree_copy.specs.PrivateNodes.{Looked};
+ghost use Rattle.tree_copy.specs.Prelude.{LookMeans, ShowsFate, refusal_means, HasLooked, IsDirMade, IsOpenTop, Stepped, TellsFate, is_taken, Looked};
 
 use level_work::Fate;
 use outside::{Failed, Kind, Plot, Tree, WriteError};

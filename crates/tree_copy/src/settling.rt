@@ -125,21 +125,6 @@ fn is_of(kind: Kind, entry: &Entry) -> bool
     }
 }
 
-fn is_done(fate: Fate) -> bool
-    ensures { result ≡ is_done fate }
-{
-    match fate {
-        Fate::Done => true,
-        Fate::Failed
-        | Fate::Conflict
-        | Fate::Skipped
-        | Fate::ParentFailed
-        | Fate::Changed
-        | Fate::NotEmpty
-        | Fate::TooLong => false,
-    }
-}
-
 fn settled_by(other: bool, fate: Fate) -> Fate
     ensures { result ≡ settled_by other fate }
 {
@@ -172,14 +157,14 @@ fn one_more(copied: u64, fate: Fate) -> u64
     requires { copied < 18446744073709551615 }
     ensures { result ≡ (if is_done fate then copied + 1 else copied) }
 {
-    if is_done(fate) { copied + 1 } else { copied }
+    if fate.is_done() { copied + 1 } else { copied }
 }
 
 fn gain(entry: &Entry, fate: Fate) -> u64
     ensures { result ≡ gain entry.now fate }
 {
     match &entry.stat {
-        Some(stat) if stat.kind == Kind::File && is_done(fate) => stat.size,
+        Some(stat) if stat.kind == Kind::File && fate.is_done() => stat.size,
         _ => 0,
     }
 }

@@ -49,11 +49,11 @@ pub use Rattle.tree_cmp.specs.Sides.{IsSide, Side, entry_at, is_closed, is_gone,
 pub use Rattle.tree_cmp.specs.declared.rows.Exist.{Exist}
 pub use Rattle.tree_cmp.specs.declared.rows.Row.{Row}
 pub use Rattle.tree_cmp.specs.declared.rows.Two.{Two}
+pub use Rattle.level_work.proofs.Stores.{done_is}
 pub use Rattle.level_work.specs.Counts.{is_done, is_failed}
 pub use Rattle.level_work.specs.declared.items.Fate.{Fate}
 pub use Rattle.tree_remove.proofs.Answers.{no_far}
 pub use Rattle.tree_remove.specs.Removing.{AreChosen, AreThere, SameButChosen, WasChosen}
-pub use Rattle.tree_copy.proofs.Copiers.{done_is}
 pub use Rattle.tree_copy.specs.Copying.{AreEarly, CanCopy, Copied, FitsTree, IsCopied, IsCopyOf, SameButTargets, body_of, clashes, due, is_target, is_untold}
 pub use Rattle.tree_copy.specs.Copying.{or_else, parent_failed, target_of, targets_of, treated}
 pub use Rattle.tree_copy.specs.Placing.{overlap}
