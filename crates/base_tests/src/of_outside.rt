@@ -1,4 +1,7 @@
 //! A sink in memory, a sink that takes little at a time, a listing, and a reader that gives little at a time.
+ghost use Rattle.std.specs.Prelude.{OnOk, OnErr};
+ghost use Rattle.outside.specs.Count.{RoseBy};
+
 use crate::shared::{parsed, same, same_number};
 use outside::{
     Failed, Kind, LinkError, LinkText, LinkTextError, ListError, Listing, LoadError, MemSink,
@@ -23,13 +26,43 @@ fn a_sink_in_memory_takes_what_it_has_room_for(rt: HostRuntime) {
     same(&rt, &sink.put(b""), &Ok(0));
 }
 
+/// Counts calls and faults, and one of the calls fails.
+#[derive(Drop)]
+struct Calls {
+    made: u64,
+    fails_at: u64,
+    faults: u64,
+}
+
+impl Calls {
+    // No call yet.
+    fn fail_at(fails_at: u64) -> Calls {
+        Calls {
+            made: 0,
+            fails_at,
+            faults: 0,
+        }
+    }
+
+    // Counts one more call.
+    fn next(&mut self) -> Result<(), Failed>
+        ensures ok { OnOk result (RoseBy 0 self.old.faults self.new.faults) }
+        ensures cause { OnErr result (RoseBy 1 self.old.faults self.new.faults) }
+    {
+        self.made = self.made.saturating_add(1);
+        if self.made == self.fails_at {
+            self.faults = self.faults.saturating_add(1);
+            return Err(Failed);
+        }
+        Ok(())
+    }
+}
+
 /// Takes two bytes at a time, and fails at one of its calls.
 #[derive(Drop)]
 struct Sip {
-    calls: u64,
-    fails_at: u64,
+    calls: Calls,
     taken: usize,
-    count: u64,
 }
 
 impl Sink for Sip {
@@ -37,18 +70,14 @@ impl Sink for Sip {
 
     ghost text = { λ s. None };
 
-    ghost count = { λ s. s.count };
+    ghost count = { λ s. s.calls.faults };
 
     fn faults(&self) -> u64 {
-        self.count
+        self.calls.faults
     }
 
     fn put(&mut self, bytes: &[u8]) -> Result<usize, Failed> {
-        self.calls = self.calls.saturating_add(1);
-        if self.calls == self.fails_at {
-            self.count = self.count.saturating_add(1);
-            return Err(Failed);
-        }
+        self.calls.next()?;
         let n = bytes.len().min(2);
         self.taken = self.taken.saturating_add(n);
         Ok(n)
@@ -64,10 +93,8 @@ fn all_is_put_in_pieces_up_to_a_fault(rt: HostRuntime) {
         (5, Ok(()), 7, 0),
     ] {
         let mut sink = Sip {
-            calls: 0,
-            fails_at,
+            calls: Calls::fail_at(fails_at),
             taken: 0,
-            count: 0,
         };
         same(&rt, &put_all(&mut sink, b"sevenbs"), &told);
         same(&rt, &(sink.taken, sink.faults()), &(taken, faults));
@@ -105,11 +132,9 @@ fn a_listing_gives_its_names_back(rt: HostRuntime) {
 /// another call on it finds no file.
 #[derive(Drop)]
 struct Drip {
+    calls: Calls,
     told: u64,
-    fails_at: u64,
     gone_at: u64,
-    calls: u64,
-    count: u64,
 }
 
 impl Tree for Drip {
@@ -117,10 +142,10 @@ impl Tree for Drip {
 
     ghost tree = { λ d. None };
 
-    ghost count = { λ d. d.count };
+    ghost count = { λ d. d.calls.faults };
 
     fn faults(&self) -> u64 {
-        self.count
+        self.calls.faults
     }
 
     fn stat(&mut self, _path: &Path) -> Result<Option<Stat>, Failed> {
@@ -136,12 +161,10 @@ impl Tree for Drip {
     }
 
     fn read(&mut self, _path: &Path, at: u64, into: &mut [u8]) -> Result<usize, ReadError> {
-        self.calls = self.calls.saturating_add(1);
-        if self.calls == self.fails_at {
-            self.count = self.count.saturating_add(1);
+        let Ok(()) = self.calls.next() else {
             return Err(ReadError::Failed);
-        }
-        if self.calls >= self.gone_at {
+        };
+        if self.calls.made >= self.gone_at {
             return Err(ReadError::NotFile);
         }
         let rest: &[u8] = match at {
@@ -168,11 +191,9 @@ fn loaded(
     gone_at: u64,
 ) -> (Result<Vec<u8>, LoadError>, u64) {
     let mut reader = Drip {
+        calls: Calls::fail_at(fails_at),
         told,
-        fails_at,
         gone_at,
-        calls: 0,
-        count: 0,
     };
     let loaded = load(rt.alloc(), &mut reader, &parsed(rt, "/f"));
     (loaded, reader.faults())
