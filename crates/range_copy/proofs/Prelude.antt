@@ -56,10 +56,11 @@ pub use Rattle.flat_list.specs.Spelling.{paths}
 pub use Rattle.level_work.proofs.Crewed.{map_get}
 pub use Rattle.level_work.proofs.Giving.{length_set, map_set, split_drop_suc}
 pub use Rattle.level_work.proofs.Hands.{if_ok}
-pub use Rattle.level_work.proofs.Sets.{is_added, is_there, turn}
+pub use Rattle.level_work.proofs.Sets.{turn}
 pub use Rattle.level_work.proofs.Stores.{done_is}
 pub use Rattle.level_work.proofs.Working.{both_told, same_some}
 pub use Rattle.level_work.specs.Counts.{is_done, is_failed}
+pub use Rattle.level_work.specs.PathSets.{has_path}
 pub use Rattle.level_work.specs.declared.items.Fate.{Fate}
 pub use Rattle.tree_copy.proofs.Comes.{weaker}
 pub use Rattle.tree_copy.proofs.Copies.{together}
@@ -79,7 +80,7 @@ pub use Rattle.range_copy.specs.Large.{HasBytes, IsSource, SpansComeBack, in_way
 pub use Rattle.range_copy.specs.PrivateFilling.{AreLoads, HasCounted, HasRange, HasWorked, IsFresh, IsLoad, IsReady, IsShort, loads_of, span_of, spans_left}
 pub use Rattle.range_copy.specs.PrivateFilling.{spans_of}
 pub use Rattle.range_copy.specs.PrivateLarge.{AreApart, AreFailed, AreRows, CanMake, IsRow, SameButFor, bytes_over, failed_at, fate_of, fitting_target, gain}
-pub use Rattle.range_copy.specs.PrivateLarge.{has_path, is_target_of}
+pub use Rattle.range_copy.specs.PrivateLarge.{is_target_of}
 pub use Rattle.range_copy.specs.PrivateParts.{ArePartsOf, exceeds, has_under, held_of, is_large, is_over, large_of, marks_of, merged, small_of}
 pub use Rattle.range_copy.specs.PrivatePlacing.{Leaves, MadeAs, ReplacedAs, freed, refused_as}
 pub use Rattle.range_copy.specs.PrivateReading.{FilledBy, IsFreshBy, IsRead}

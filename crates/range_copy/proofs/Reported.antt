@@ -55,15 +55,19 @@ module _ (list : List Entry) (pairs : List Pair) (given : Given list pairs) (pie
         rest_both list pairs given piece t t1 t2 tells (subst (λ es. IfSome t (λ before. IfSome t1 (SameButTargets pairs es before))) s first)
         (subst (λ es. IfSome t1 (λ before. IfSome t2 (SameButFor pairs es before))) l second)
 
+-- what a report says
+pub record Reported (list : List Entry) (pairs : List Pair) (t t2 : Option Files) (n n2 : ℕ) (report : List Row × ℕ × ℕ) : Type 0 where
+  pub paths : map (λ row. row.0) report.0 ≡ paths (treated list)
+  pub early : AreEarly list pairs report.0
+  pub told : IfSome t (λ before. IfSome t2 (Copied list pairs report.0 before))
+  pub copied : report.1 ≡ count_by (λ row. is_done row.1) report.0
+  pub bytes : report.2 ≡ bytes_copied list report.0
+  pub blamed : RoseBy (count_by (λ row. is_failed row.1) report.0) n n2
+
 -- what both parts told, by the files and the counts of faults before them, between them and after them
 pub record Ran (pairs : List Pair) (small large : List Entry) (first : List Row × ℕ × ℕ) (second : Tally) (t t1 t2 : Option Files)
     (n n1 n2 : ℕ) : Type 0 where
-  pub same : map (λ row. row.0) first.0 ≡ paths (treated small)
-  pub early_s : AreEarly small pairs first.0
-  pub told_s : IfSome t (λ before. IfSome t1 (Copied small pairs first.0 before))
-  pub copied_s : first.1 ≡ count_by (λ row. is_done row.1) first.0
-  pub bytes_s : first.2 ≡ bytes_copied small first.0
-  pub blamed_s : RoseBy (count_by (λ row. is_failed row.1) first.0) n n1
+  pub said : Reported small pairs t t1 n n1 first
   pub tells_s : is_some t1 ≡ is_some t
   pub early_l : AreRows (IsEarly pairs first.0) large second.rows.items
   pub told_l : IfSome t1 (λ before. IfSome t2 (λ after. AreRows (IsCopied before after pairs first.0) large second.rows.items))
@@ -78,15 +82,6 @@ pub record IsMerged (marks : List Bool) (first : List Row × ℕ × ℕ) (second
   pub copied : report.1 ≡ first.1 + second.copied
   pub bytes : report.2 ≡ first.2 + second.bytes
 
--- what it says
-pub record Reported (list : List Entry) (pairs : List Pair) (t t2 : Option Files) (n n2 : ℕ) (report : List Row × ℕ × ℕ) : Type 0 where
-  pub paths : map (λ row. row.0) report.0 ≡ paths (treated list)
-  pub early : AreEarly list pairs report.0
-  pub told : IfSome t (λ before. IfSome t2 (Copied list pairs report.0 before))
-  pub copied : report.1 ≡ count_by (λ row. is_done row.1) report.0
-  pub bytes : report.2 ≡ bytes_copied list report.0
-  pub blamed : RoseBy (count_by (λ row. is_failed row.1) report.0) n n2
-
 module _ (list : List Entry) (pairs : List Pair) (given : Given list pairs) (piece : ℕ) (first : List Row × ℕ × ℕ) (second : Tally)
     (t t1 t2 : Option Files) (n n1 n2 : ℕ) where
   abbrev rows : List Row
@@ -96,7 +91,7 @@ module _ (list : List Entry) (pairs : List Pair) (given : Given list pairs) (pie
       IsMerged (marks_of piece list) first second report → Reported list pairs t t2 n n2 report
   reported r report m =
       let lrows = second.rows.items in
-      let slim = small_early list pairs given piece first.0 lrows r.same r.early_s r.early_l in
+      let slim = small_early list pairs given piece first.0 lrows r.said.paths r.said.early r.early_l in
       let Early : Entry → Fate → Type 0 = IsEarly pairs first.0 in
       let done : Row → Bool = λ row. is_done row.1 in
       let failed : Row → Bool = λ row. is_failed row.1 in
@@ -104,17 +99,17 @@ module _ (list : List Entry) (pairs : List Pair) (given : Given list pairs) (pie
         paths = ap (map (λ (row : Row). row.0)) m.rows
             ∙ row_paths Early (treated list) rows (merged_rows Early piece list first.0 lrows slim r.early_l);
         early = subst (AreEarly list pairs) (sym m.rows)
-            (rows_told (IsEarly pairs rows) (treated list) rows (rows_early list pairs given piece first.0 lrows r.same r.early_s r.early_l));
+            (rows_told (IsEarly pairs rows) (treated list) rows (rows_early list pairs given piece first.0 lrows r.said.paths r.said.early r.early_l));
         told = subst (λ own. IfSome t (λ before. IfSome t2 (Copied list pairs own before))) (sym m.rows)
-            (copied_told list pairs given piece first.0 lrows r.same r.early_s r.early_l t t1 t2 r.tells_s r.told_s r.told_l r.rest_l);
-        copied = m.copied ∙ (λ i. r.copied_s i + r.copied_l i) ∙ sym (merged_count is_done Early piece list first.0 lrows slim r.early_l)
+            (copied_told list pairs given piece first.0 lrows r.said.paths r.said.early r.early_l t t1 t2 r.tells_s r.said.told r.told_l r.rest_l);
+        copied = m.copied ∙ (λ i. r.said.copied i + r.copied_l i) ∙ sym (merged_count is_done Early piece list first.0 lrows slim r.early_l)
             ∙ ap (count_by done) (sym m.rows);
-        bytes = m.bytes ∙ (λ i. r.bytes_s i + r.bytes_l i)
+        bytes = m.bytes ∙ (λ i. r.said.bytes i + r.bytes_l i)
             ∙ sym (merged_sum (λ (one : Told). cond (is_done one.1.1) (bytes_by one.0.stat) 0) Early piece list first.0 lrows slim r.early_l)
             ∙ ap (bytes_copied list) (sym m.rows);
         blamed = subst (λ own. RoseBy (count_by failed own) n n2) (sym m.rows)
             (subst (λ k. RoseBy k n n2) (sym (merged_count is_failed Early piece list first.0 lrows slim r.early_l))
-            (rose_both (count_by failed first.0) (count_by failed lrows) n n1 n2 r.blamed_s r.blamed_l));
+            (rose_both (count_by failed first.0) (count_by failed lrows) n n1 n2 r.said.blamed r.blamed_l));
       }
 
   -- the same, by the parts as they were told

@@ -134,66 +134,48 @@ merged_rows P piece = by_parts (Merging P) piece (λ srows lrows s l. tt) wide s
     slim e all small large marks h [] lrows s l = absurd s
     slim e all small large marks h (row ∷ srows) lrows s l = (s.0, h srows lrows s.1 l)
 
--- a number of all rows is that of the small ones and that of the large ones
+-- a measure of the rows beside their entries, which adds up row by row: that of all is that of the small ones and of the large ones
+abbrev Adding : (List Entry → List Row → ℕ) → (Entry → Fate → Type 0) → Between
+Adding m P all small large marks = (srows lrows : List Row) → AreRows P small srows → AreRows P large lrows →
+    m all (merged marks srows lrows) ≡ m small srows + m large lrows
 
-abbrev Counting : (Fate → Bool) → (Entry → Fate → Type 0) → Between
-Counting p P all small large marks = (srows lrows : List Row) → AreRows P small srows → AreRows P large lrows →
-    count_by (λ (row : Row). p row.1) (merged marks srows lrows) ≡ count_by (λ (row : Row). p row.1) srows + count_by (λ (row : Row). p row.1) lrows
+merged_by : (m : List Entry → List Row → ℕ) (w : Entry → Row → ℕ) → m [] [] ≡ 0 →
+    ((e : Entry) (row : Row) (es : List Entry) (rows : List Row) → m (e ∷ es) (row ∷ rows) ≡ w e row + m es rows) →
+    (P : Entry → Fate → Type 0) (piece : ℕ) (es : List Entry) (srows lrows : List Row) →
+    AreRows P (treated (small_of piece es)) srows → AreRows P (large_of piece es) lrows →
+    m (treated es) (merged (marks_of piece es) srows lrows) ≡ m (treated (small_of piece es)) srows + m (large_of piece es) lrows
+merged_by m w zero_is more P piece = by_parts (Adding m P) piece none wide slim
+  where
+    none : Adding m P [] [] [] []
+    none [] [] s l = omega (arith, zero_is)
+    none [] (row ∷ lrows) s l = absurd l
+    none (row ∷ srows) lrows s l = absurd s
+
+    wide : (e : Entry) (all small large : List Entry) (marks : List Bool) → Adding m P all small large marks →
+        Adding m P (e ∷ all) small (e ∷ large) (true ∷ marks)
+    wide e all small large marks h srows [] s l = absurd l
+    wide e all small large marks h srows (row ∷ lrows) s l =
+        let r = h srows lrows s l.1 in
+        omega (arith, r, more e row all (merged marks srows lrows), more e row large lrows)
+
+    slim : (e : Entry) (all small large : List Entry) (marks : List Bool) → Adding m P all small large marks →
+        Adding m P (e ∷ all) (e ∷ small) large (false ∷ marks)
+    slim e all small large marks h [] lrows s l = absurd s
+    slim e all small large marks h (row ∷ srows) lrows s l =
+        let r = h srows lrows s.1 l in
+        omega (arith, r, more e row all (merged marks srows lrows), more e row small srows)
 
 pub merged_count : (p : Fate → Bool) (P : Entry → Fate → Type 0) (piece : ℕ) (es : List Entry) (srows lrows : List Row) →
     AreRows P (treated (small_of piece es)) srows → AreRows P (large_of piece es) lrows →
     count_by (λ row. p row.1) (merged (marks_of piece es) srows lrows) ≡ count_by (λ row. p row.1) srows + count_by (λ row. p row.1) lrows
-merged_count p P piece = by_parts (Counting p P) piece none wide slim
-  where
-    none : Counting p P [] [] [] []
-    none [] [] s l = refl
-    none [] (row ∷ lrows) s l = absurd l
-    none (row ∷ srows) lrows s l = absurd s
-
-    wide : (e : Entry) (all small large : List Entry) (marks : List Bool) → Counting p P all small large marks →
-        Counting p P (e ∷ all) small (e ∷ large) (true ∷ marks)
-    wide e all small large marks h srows [] s l = absurd l
-    wide e all small large marks h srows (row ∷ lrows) s l =
-        let r = h srows lrows s l.1 in
-        let one : Row → ℕ = λ row. cond (p row.1) 1 0 in
-        omega (arith, r, sum_by-cons one row (merged marks srows lrows), sum_by-cons one row lrows)
-
-    slim : (e : Entry) (all small large : List Entry) (marks : List Bool) → Counting p P all small large marks →
-        Counting p P (e ∷ all) (e ∷ small) large (false ∷ marks)
-    slim e all small large marks h [] lrows s l = absurd s
-    slim e all small large marks h (row ∷ srows) lrows s l =
-        let r = h srows lrows s.1 l in
-        let one : Row → ℕ = λ row. cond (p row.1) 1 0 in
-        omega (arith, r, sum_by-cons one row (merged marks srows lrows), sum_by-cons one row srows)
-
-abbrev Summing : (Told → ℕ) → (Entry → Fate → Type 0) → Between
-Summing w P all small large marks = (srows lrows : List Row) → AreRows P small srows → AreRows P large lrows →
-    sum_by w (zip all (merged marks srows lrows)) ≡ sum_by w (zip small srows) + sum_by w (zip large lrows)
+merged_count p = merged_by (λ es rows. count_by (λ (row : Row). p row.1) rows) (λ e row. cond (p row.1) 1 0) refl
+    (λ e row es rows. sum_by-cons (λ (row : Row). cond (p row.1) 1 0) row rows)
 
 pub merged_sum : (w : Told → ℕ) (P : Entry → Fate → Type 0) (piece : ℕ) (es : List Entry) (srows lrows : List Row) →
     AreRows P (treated (small_of piece es)) srows → AreRows P (large_of piece es) lrows →
     sum_by w (zip (treated es) (merged (marks_of piece es) srows lrows))
     ≡ sum_by w (zip (treated (small_of piece es)) srows) + sum_by w (zip (large_of piece es) lrows)
-merged_sum w P piece = by_parts (Summing w P) piece none wide slim
-  where
-    none : Summing w P [] [] [] []
-    none [] [] s l = refl
-    none [] (row ∷ lrows) s l = absurd l
-    none (row ∷ srows) lrows s l = absurd s
-
-    wide : (e : Entry) (all small large : List Entry) (marks : List Bool) → Summing w P all small large marks →
-        Summing w P (e ∷ all) small (e ∷ large) (true ∷ marks)
-    wide e all small large marks h srows [] s l = absurd l
-    wide e all small large marks h srows (row ∷ lrows) s l =
-        let r = h srows lrows s l.1 in
-        omega (arith, r, sum_by-cons w (e, row) (zip all (merged marks srows lrows)), sum_by-cons w (e, row) (zip large lrows))
-
-    slim : (e : Entry) (all small large : List Entry) (marks : List Bool) → Summing w P all small large marks →
-        Summing w P (e ∷ all) (e ∷ small) large (false ∷ marks)
-    slim e all small large marks h [] lrows s l = absurd s
-    slim e all small large marks h (row ∷ srows) lrows s l =
-        let r = h srows lrows s.1 l in
-        omega (arith, r, sum_by-cons w (e, row) (zip all (merged marks srows lrows)), sum_by-cons w (e, row) (zip small srows))
+merged_sum w = merged_by (λ es rows. sum_by w (zip es rows)) (λ e row. w (e, row)) refl (λ e row es rows. sum_by-cons w (e, row) (zip es rows))
 
 -- a target whose entry failed is so among all rows where it is so among the small ones, if it is no large file's
 

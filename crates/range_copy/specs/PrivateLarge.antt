@@ -11,15 +11,12 @@ use Rattle.entry_pages.specs.declared.entries.Entry.{Entry}
 use Rattle.level_work.specs.declared.items.Fate.{Fate}
 use Rattle.level_work.specs.declared.items.Fate.TheVariants as fate
 use Rattle.level_work.specs.Counts.{is_done}
+use Rattle.level_work.specs.PathSets.{has_path}
 use Rattle.tree_copy.specs.Copying.{target_of}
 use Rattle.tree_copy.specs.declared.pairs.Pair.{Pair}
 use Rattle.range_copy.specs.Large.{IsSource}
 use Rattle.range_copy.specs.declared.came.Came.{Came}
 use Rattle.range_copy.specs.declared.came.Came.TheVariants as came
-
--- the path is among these
-abbrev pub has_path : List (List ℕ) → List ℕ → Bool
-has_path paths q = list_any (pointwise nat_eq q) paths
 
 -- a path, if it is not longer than a path may be
 abbrev pub fitting : List ℕ → Option (List ℕ)

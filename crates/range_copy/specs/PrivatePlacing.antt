@@ -59,10 +59,7 @@ abbrev pub refused_as : WriteError → Result Came RangeError
 refused_as write.Exists = Ok came.Conflict
 refused_as write.Failed = Ok came.Failed
 refused_as write.OutOfMemory = Err range.OutOfMemory
-refused_as write.NoParent = Ok came.Changed
-refused_as write.WrongKind = Ok came.Changed
-refused_as write.NotEmpty = Ok came.Changed
-refused_as write.Absent = Ok came.Changed
+refused_as _ = Ok came.Changed
 
 -- the outcome at a path whose old file was removed: a node that is there again is a change
 abbrev pub freed : Result Came RangeError → Result Came RangeError

@@ -1,55 +1,15 @@
 //! The targets of entries that were not copied.
-ghost use Rattle.std.specs.Prelude.{◌≡◌, ◌||◌, ◌∷◌, ◌++◌, ℕ, List, [], None, true, false, All, IfOk, IfSome, OnOk, nat_eq};
+ghost use Rattle.std.specs.Prelude.{◌≡◌, ◌∷◌, ◌++◌, ℕ, List, [], None, true, All, IfOk, IfSome, OnOk};
 ghost use Rattle.std.specs.List.{list_any};
-ghost use Rattle.std.specs.Cmp.Lexicographic.{pointwise};
-ghost use Rattle.flat_list.specs.Prelude.{refusal, parent_of, is_within, grafted, below_of, is_root};
+ghost use Rattle.flat_list.specs.Prelude.{refusal, is_within, grafted, below_of};
 ghost use Rattle.level_work.specs.declared.items.Fate.{Fate};
-ghost use Rattle.level_work.specs.Counts.{is_done};
-ghost use Rattle.range_copy.specs.PrivateLarge.{AreFailed, fitting, fitting_target, has_path};
+ghost use Rattle.range_copy.specs.PrivateLarge.{AreFailed, fitting, fitting_target};
 
 use crate::cutting::RangeError;
-use level_work::Fate;
+use level_work::{Fate, Paths};
 use path_text::{JoinError, Path};
 use std::alloc::Global;
-use std::collections::BTreeSet;
 use tree_copy::{CopyReport, Pair};
-
-// Some paths.
-#[derive(Drop)]
-pub(crate) struct Paths {
-    pub(crate) set: BTreeSet<Path>,
-}
-
-impl Paths {
-    // Whether the parent of this path is among them. If there are none, this takes no memory.
-    pub(crate) fn has_parent_of(&self, path: &Path) -> Result<bool, RangeError>
-        requires { is_root path.now ≡ false }
-        ensures { IfOk result (λ has. has ≡ has_path self.now.set.keys (parent_of path.now)) }
-    {
-        if self.set.is_empty() {
-            return Ok(false);
-        }
-        let _ = path.text(); // shows that it is a path
-        let Some(parent) = path.parent()? else {
-            unreachable!()
-        };
-        Ok(self.has(&parent))
-    }
-
-    fn has(&self, path: &Path) -> bool
-        ensures { result ≡ has_path self.now.set.keys path.now }
-    {
-        self.set.contains(path)
-    }
-
-    // One more.
-    fn add(&mut self, path: Path) -> Result<(), RangeError>
-        ensures { OnOk result ((q : List ℕ) → has_path self.new.set.keys q ≡ (pointwise nat_eq q path || has_path self.old.set.keys q)) }
-    {
-        self.set.insert(path)?;
-        Ok(())
-    }
-}
 
 // The targets of the entries that did not come to `Done`, but for those that are too long.
 pub(crate) fn failed_targets(
@@ -60,9 +20,7 @@ pub(crate) fn failed_targets(
     requires { All (λ row. list_any (λ pair. is_within row.0 pair.source) pairs.now ≡ true) report.now.0 }
     ensures { IfOk result (λ failed. AreFailed pairs.now report.now.0 failed.set.keys) }
 {
-    let mut failed = Paths {
-        set: BTreeSet::new(alloc),
-    };
+    let mut failed = Paths::none(alloc);
     for k in 0..report.len() {
         note(&mut failed, report.path(k), report.fate(k), pairs)?;
     }
@@ -75,19 +33,14 @@ fn note(failed: &mut Paths, path: &Path, fate: Fate, pairs: &[Pair]) -> Result<(
     ensures { (rows : List (List ℕ × Fate)) → AreFailed pairs.now rows failed.old.set.keys →
         OnOk result (AreFailed pairs.now (rows ++ (path.now, fate) ∷ []) failed.new.set.keys) }
 {
-    if is_done(fate) {
+    if fate.is_done() {
         return Ok(());
     }
     let Some(target) = target_of(path, pairs)? else {
         return Ok(());
     };
-    failed.add(target)
-}
-
-fn is_done(fate: Fate) -> bool
-    ensures { result ≡ is_done fate }
-{
-    fate == Fate::Done
+    failed.add(&target)?;
+    Ok(())
 }
 
 // The target of a path within a source, if it is not too long.

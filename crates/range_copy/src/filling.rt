@@ -11,6 +11,7 @@ use crate::filled::Filled;
 use crate::fillers::Filler;
 use outside::{ReadError, Span, SpanError, Tree};
 use path_text::Path;
+use tree_copy::piece;
 
 impl<T: Tree, S: Span> Filler<T, S> {
     // Fills its span, if it has one, with the bytes of a file of so many bytes. It does nothing once its work has not come to `Done`.
@@ -82,19 +83,4 @@ fn fill_span<T: Tree, S: Span>(
         at += count as u64;
     }
     Filled::Done
-}
-
-// How many bytes to read next: all that are left, or a whole buffer.
-fn piece(left: u64, room: usize) -> usize
-    requires left { 0 < left }
-    requires room { 0 < room }
-    ensures some { 0 < result }
-    ensures most { result ≤ room }
-    ensures inside { result ≤ left }
-{
-    if left < room as u64 {
-        left as usize
-    } else {
-        room
-    }
 }

@@ -17,11 +17,8 @@ use Rattle.entry_pages.specs.declared.entries.Entry.{Entry}
 use Rattle.entry_pages.specs.Entries.{is_of}
 use Rattle.flat_list.specs.Spelling.{paths}
 use Rattle.level_work.specs.declared.items.Fate.{Fate}
-use Rattle.tree_cmp.specs.declared.rows.Exist.{Exist}
-use Rattle.tree_cmp.specs.declared.rows.Exist.TheVariants as exist
-use Rattle.tree_cmp.specs.declared.rows.Two.{Two}
-use Rattle.tree_cmp.specs.declared.rows.Two.TheVariants as two
 use Rattle.tree_cmp.specs.declared.rows.Row.{Row}
+pub use Rattle.tree_cmp.specs.Expressions.{on_both as is_both, only_dest as is_only_dest, agrees as is_common, differs as is_differ}
 use Rattle.tree_cmp.specs.Readers.{ShowsChange, ShowsFailure, StatsTold}
 use Rattle.tree_cmp.specs.Rows.{Findings, IsComparison}
 use Rattle.tree_cmp.specs.Sides.{Side, side, IsSide, is_gone}
@@ -36,26 +33,6 @@ use Rattle.tree_sync.specs.Results.{Results}
 -- the row at a path below the tops
 abbrev pub row_at : List Row → List ℕ → Option Row
 row_at rows p = find (λ row. pointwise nat_eq row.path p) rows
-
-abbrev pub is_both : Exist → Bool
-is_both exist.Common = true
-is_both exist.OnlySrc = false
-is_both exist.OnlyDest = false
-
-abbrev pub is_only_dest : Exist → Bool
-is_only_dest exist.OnlyDest = true
-is_only_dest exist.OnlySrc = false
-is_only_dest exist.Common = false
-
-abbrev pub is_common : Two → Bool
-is_common two.Common = true
-is_common two.Differ = false
-is_common two.NoValue = false
-
-abbrev pub is_differ : Two → Bool
-is_differ two.Differ = true
-is_differ two.Common = false
-is_differ two.NoValue = false
 
 -- both sides have the path, with one kind, and, unless it is a directory, with one content: the bytes of files or the texts of links
 abbrev pub agrees : Option Stat → Option Row → Bool

@@ -5,7 +5,7 @@ ghost use Rattle.level_work.specs.Counts.{is_done};
 ghost use Rattle.tree_sync.specs.PrivateSteps.{results_of};
 
 use crate::planning::Plan;
-use level_work::Fate;
+use level_work::{Fate, number_done};
 use path_text::Path;
 use std::marker::Model;
 use tree_copy::CopyReport;
@@ -48,14 +48,14 @@ impl SyncReport {
     pub fn copied(&self) -> u64
         ensures { result ≡ count_by (λ row. is_done row.1) self.now.copies }
     {
-        count_done(&self.copies)
+        number_done(&self.copies)
     }
 
     /// How many paths were removed.
     pub fn removed(&self) -> u64
         ensures { result ≡ count_by (λ row. is_done row.1) self.now.removals }
     {
-        count_done(&self.removals)
+        number_done(&self.removals)
     }
 
     /// How many entries the destination had already.
@@ -92,17 +92,4 @@ impl SyncReport {
     {
         &self.changed
     }
-}
-
-// The number of rows that came to `Done`.
-fn count_done(rows: &[(Path, Fate)]) -> u64
-    ensures { result ≡ count_by (λ row. is_done row.1) rows.now }
-{
-    rows.iter().filter(|row| is_done(row.1)).count() as u64
-}
-
-fn is_done(fate: Fate) -> bool
-    ensures { result ≡ is_done fate }
-{
-    fate == Fate::Done
 }

@@ -96,12 +96,14 @@ said g c =
     c.in_ok-parts.parts.small c.deref.result.now c.deref-2.result.now c.in_ok-parts.ensures.small
     (c.deref.ensures.value ∙ c.in_ok-parts.ensures.large) (c.deref-2.ensures.value ∙ c.in_ok-parts.ensures.marks)
     (record {
-      same = small.ensures.paths;
-      early_s = small.ensures.early;
-      told_s = small.ensures.told;
-      copied_s = small.ensures.copied;
-      bytes_s = small.ensures.bytes;
-      blamed_s = small.ensures.blamed;
+      said = record {
+        paths = small.ensures.paths;
+        early = small.ensures.early;
+        told = small.ensures.told;
+        copied = small.ensures.copied;
+        bytes = small.ensures.bytes;
+        blamed = small.ensures.blamed;
+      };
       tells_s = small.ensures.tells;
       early_l = large.ensures.early small.small.0 c.in_ok-failed.ensures;
       told_l = large.ensures.told small.small.0 c.in_ok-failed.ensures;
