@@ -6,7 +6,8 @@ usage: fold_imports.py [CRATE...]
 A crate with four proof files or more gets `proofs/Prelude.antt` for its proofs. A room, and `mfu_top`, gets `specs/Prelude.antt` for the contracts
 in its sources. Without names the script goes through all crates. Run it at the top of the repository after new imports, then `rt fmt` in each crate
 that changed. A second run changes nothing. Some imports stay in their file: those of the crate's own proofs, or of its own `specs/` in a source,
-those under another name (`as`), those that a line `unfolding` names, and those whose name most files of the crate take from another module.
+those under another name (`as`), operators in a source, those that a line `unfolding` names, and those whose name most files of the crate take from
+another module.
 """
 import collections
 import os
@@ -16,6 +17,8 @@ import sys
 USE = re.compile(r"^(pub |ghost )?use ([^\s{]+?)\.\{(.*)\};?$")
 WIDTH = 160
 HEAD = "-- The names from elsewhere that the %s of this crate cite, passed on from one place. Declares nothing."
+# A source takes the operators of the library from the library itself, as the gate asks.
+OPERATORS = "ghost use Rattle.std.specs.Prelude."
 # The rooms take the usual names from here.
 SHARED = "Rattle.run_report.specs.Prelude"
 
@@ -112,7 +115,7 @@ def imports(lines, start, own, prelude, known):
         stay = []
         for name in names_of(match):
             module = known.get(name, match.group(2)) if match.group(2) == prelude else match.group(2)
-            if " as " in name or name in unfolded:
+            if " as " in name or name in unfolded or (start == "ghost use" and "◌" in name):
                 stay.append((module, name))
             else:
                 taken[name] = module
@@ -147,7 +150,7 @@ def fold(crate, order, kind):
         for module, names in direct.items():
             heads.extend(rows(start, module, names))
         lines = rest[path]
-        place = next((number for number, line in enumerate(lines) if not line.startswith(("--", "//!"))), len(lines))
+        place = next((number for number, line in enumerate(lines) if not line.startswith(("--", "//!", OPERATORS))), len(lines))
         changed += write(path, lines[:place] + heads + lines[place:])
 
     def rank(module):

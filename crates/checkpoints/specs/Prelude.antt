@@ -4,7 +4,6 @@ pub use Rattle.std.specs.List.Sorted.{IsPermutation, IsSorted, IsSortedByKey, Is
 pub use Rattle.std.specs.Option.{option_copied}
 pub use Rattle.std.specs.Ordering.{is_lt}
 pub use Rattle.std.specs.Prelude.{All, IfErr, IfNone, IfOk, IfSome, List, None, OnErr, OnOk, Some, [], drop, false, is_some, length, map, slice_index, true}
-pub use Rattle.std.specs.Prelude.{◌++◌, ◌+◌, ◌<◌, ◌||◌, ◌≡◌, ◌≤◌, ◌⊎◌}
 pub use Rattle.circle_lists.specs.Checkpoint.{AllFit, HoldLists}
 pub use Rattle.circle_lists.specs.Spelling.{IsRank}
 pub use Rattle.run_report.specs.Prelude.{RoseBy, SameBut, is_of, is_root, is_shaped, nothing_lent, path_cmp, paths, side_of}

@@ -1,5 +1,6 @@
 //! The path of the list file, and the stop of an error at the files of the ranks.
-ghost use Rattle.checkpoints.specs.Prelude.{◌≡◌, ◌<◌, ◌≤◌, IfOk, IfSome, IfNone, length};
+ghost use Rattle.std.specs.Prelude.{◌≡◌, ◌<◌, ◌≤◌};
+ghost use Rattle.checkpoints.specs.Prelude.{IfOk, IfSome, IfNone, length};
 ghost use Rattle.checkpoints.specs.Kept.{list_path};
 ghost use Rattle.checkpoints.specs.Stopping.{stop_of_lists};
 

@@ -1,6 +1,6 @@
 //! The done entries, gone over beside left strings in path order.
-ghost use Rattle.checkpoints.specs.Prelude.{◌≡◌, ◌++◌, ◌+◌, ◌<◌, [], length, OnOk, IfOk, Some, None, list_any, IsStrictlySortedBy, option_copied, is_lt};
-ghost use Rattle.checkpoints.specs.Prelude.{path_cmp, is_of, paths};
+ghost use Rattle.std.specs.Prelude.{◌≡◌, ◌++◌, ◌+◌, ◌<◌};
+ghost use Rattle.checkpoints.specs.Prelude.{[], length, OnOk, IfOk, Some, None, list_any, IsStrictlySortedBy, option_copied, is_lt, path_cmp, is_of, paths};
 ghost use Rattle.outside.specs.declared.trees.Kind.TheVariants as kind;
 ghost use Rattle.checkpoints.specs.Placing.{is_open, clashes};
 ghost use Rattle.checkpoints.specs.Passing.{covered, closed_with, first_of, moved, ArePassed, StartsBehind, starts_in};

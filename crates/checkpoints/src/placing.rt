@@ -1,6 +1,7 @@
 //! The left strings that are misplaced.
-ghost use Rattle.checkpoints.specs.Prelude.{◌≡◌, ◌≤◌, ◌<◌, ◌+◌, ◌++◌, ◌||◌, List, length, map, drop, IfOk, IfSome, OnOk, Some, None, flat_map, enumerate_from};
-ghost use Rattle.checkpoints.specs.Prelude.{IsPermutation, IsSorted, IsSortedByKey, IsStrictlySortedBy, option_copied, path_cmp, paths};
+ghost use Rattle.std.specs.Prelude.{◌≡◌, ◌≤◌, ◌<◌, ◌+◌, ◌++◌, ◌||◌};
+ghost use Rattle.checkpoints.specs.Prelude.{List, length, map, drop, IfOk, IfSome, OnOk, Some, None, flat_map, enumerate_from, IsPermutation, IsSorted};
+ghost use Rattle.checkpoints.specs.Prelude.{IsSortedByKey, IsStrictlySortedBy, option_copied, path_cmp, paths};
 ghost use Rattle.checkpoints.specs.Placing.{is_misplaced, ArePlaced, IsFirstMisplaced};
 ghost use Rattle.checkpoints.specs.Passing.{covered, top_with, starts_at, paths_in, lower_of, lowest_with, IsLowest, IsPlace};
 ghost use Rattle.checkpoints.specs.Lefts.{numbered};

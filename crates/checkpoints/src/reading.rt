@@ -1,6 +1,7 @@
 //! A checkpoint, read.
-ghost use Rattle.checkpoints.specs.Prelude.{◌≡◌, ◌⊎◌, ◌+◌, ◌<◌, All, length, map, slice_index, IfOk, IfErr, IfSome, OnOk, true, flat_map, IsStrictlySortedBy};
-ghost use Rattle.checkpoints.specs.Prelude.{path_cmp, RoseBy, is_shaped, paths, side_of, IsRank, AllFit, HoldLists};
+ghost use Rattle.std.specs.Prelude.{◌≡◌, ◌⊎◌, ◌+◌, ◌<◌};
+ghost use Rattle.checkpoints.specs.Prelude.{All, length, map, slice_index, IfOk, IfErr, IfSome, OnOk, true, flat_map, IsStrictlySortedBy, path_cmp, RoseBy};
+ghost use Rattle.checkpoints.specs.Prelude.{is_shaped, paths, side_of, IsRank, AllFit, HoldLists};
 ghost use Rattle.circle_lists.specs.Checkpoint as ranks;
 ghost use Rattle.checkpoints.specs.Placing.{ArePlaced};
 ghost use Rattle.checkpoints.specs.Kept.{IsCheckpoint};

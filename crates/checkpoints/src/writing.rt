@@ -1,6 +1,7 @@
 //! A checkpoint, written.
-ghost use Rattle.checkpoints.specs.Prelude.{◌≡◌, ◌≤◌, ◌⊎◌, All, length, map, IfErr, IfSome, OnErr, OnOk, is_some, true, false, IsStrictlySortedBy, path_cmp};
-ghost use Rattle.checkpoints.specs.Prelude.{RoseBy, is_root, nothing_lent, SameBut, is_shaped, paths, side_of, AllFit, SameButAll};
+ghost use Rattle.std.specs.Prelude.{◌≡◌, ◌≤◌, ◌⊎◌};
+ghost use Rattle.checkpoints.specs.Prelude.{All, length, map, IfErr, IfSome, OnErr, OnOk, is_some, true, false, IsStrictlySortedBy, path_cmp, RoseBy, is_root};
+ghost use Rattle.checkpoints.specs.Prelude.{nothing_lent, SameBut, is_shaped, paths, side_of, AllFit, SameButAll};
 ghost use Rattle.checkpoints.specs.Kept.{list_path, checkpoint_paths, IsKept, HoldsNewest};
 ghost use Rattle.checkpoints.specs.Stopping.{IsCleared, IsGone, IsTorn, StopsWriting};
 ghost use Rattle.checkpoints.specs.PrivateRemoval.{IsMeant};

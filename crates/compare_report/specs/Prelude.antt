@@ -2,7 +2,7 @@
 pub use Rattle.std.specs.Cmp.Lexicographic.{pointwise}
 pub use Rattle.std.specs.List.{list_any}
 pub use Rattle.std.specs.List.Sorted.{IsStrictlySortedBy}
-pub use Rattle.std.specs.Prelude.{All, IfErr, IfOk, OnOk, [], filter, if◌then◌else◌, length, map, nat_eq, not, true, ◌&&◌, ◌++◌, ◌∷◌, ◌≡◌, ◌≤◌}
+pub use Rattle.std.specs.Prelude.{All, IfErr, IfOk, OnOk, [], filter, length, map, nat_eq, not, true}
 pub use Rattle.tree_cmp.specs.Expressions.{only_dest}
 pub use Rattle.tree_cmp.specs.Passes.{IsPassed}
 pub use Rattle.tree_cmp.specs.Rows.{IsComparison}

@@ -1,5 +1,6 @@
 //! The work of dcmp.
-ghost use Rattle.compare_report.specs.Prelude.{◌≡◌, [], All, IfOk, IfErr, true, IsStrictlySortedBy, path_cmp, RoseBy, nothing_lent, is_shaped, paths, side_of};
+ghost use Rattle.std.specs.Prelude.{◌≡◌};
+ghost use Rattle.compare_report.specs.Prelude.{[], All, IfOk, IfErr, true, IsStrictlySortedBy, path_cmp, RoseBy, nothing_lent, is_shaped, paths, side_of};
 ghost use Rattle.compare_report.specs.Prelude.{WithinCompare};
 ghost use Rattle.compare_report.specs.Comparing.{compare_asked, ReportsCompare, StopsCompare, LeavesCompare};
 ghost use Rattle.compare_report.specs.PrivateSteps.{IsPrepared};

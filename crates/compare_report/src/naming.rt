@@ -1,5 +1,6 @@
 //! The notes of a comparison.
-ghost use Rattle.compare_report.specs.Prelude.{◌≡◌, ◌++◌, OnOk, IfOk, AreInOrder};
+ghost use Rattle.std.specs.Prelude.{◌≡◌, ◌++◌};
+ghost use Rattle.compare_report.specs.Prelude.{OnOk, IfOk, AreInOrder};
 ghost use Rattle.compare_report.specs.Comparing.{missed_notes, compare_failures};
 
 use path_text::OutOfMemory;

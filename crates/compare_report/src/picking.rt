@@ -1,6 +1,7 @@
 //! The entries of a list at some paths.
-ghost use Rattle.compare_report.specs.Prelude.{◌≡◌, ◌++◌, ◌∷◌, ◌&&◌, [], not, if◌then◌else◌, OnOk, IfOk, filter, nat_eq, pointwise, list_any};
-ghost use Rattle.compare_report.specs.Prelude.{IsStrictlySortedBy, path_cmp, paths, side, IsSide, IsPassed};
+ghost use Rattle.std.specs.Prelude.{◌≡◌, ◌++◌, ◌∷◌, ◌&&◌, if◌then◌else◌};
+ghost use Rattle.compare_report.specs.Prelude.{[], not, OnOk, IfOk, filter, nat_eq, pointwise, list_any, IsStrictlySortedBy, path_cmp, paths, side, IsSide};
+ghost use Rattle.compare_report.specs.Prelude.{IsPassed};
 ghost use Rattle.compare_report.specs.Outputs.{picks, IsJoined};
 ghost use Rattle.compare_report.specs.PrivatePicks.{picks_but};
 

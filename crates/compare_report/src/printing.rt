@@ -1,5 +1,6 @@
 //! The texts of a comparison.
-ghost use Rattle.compare_report.specs.Prelude.{◌≡◌, length, IfOk, note_lines, rows_text};
+ghost use Rattle.std.specs.Prelude.{◌≡◌};
+ghost use Rattle.compare_report.specs.Prelude.{length, IfOk, note_lines, rows_text};
 
 use path_text::OutOfMemory;
 use run_entries::report_with;

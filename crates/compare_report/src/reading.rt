@@ -1,5 +1,6 @@
 //! The comparison of two sides.
-ghost use Rattle.compare_report.specs.Prelude.{◌≡◌, ◌≤◌, length, IfOk, RoseBy, IsComparison, side, AreSides};
+ghost use Rattle.std.specs.Prelude.{◌≡◌, ◌≤◌};
+ghost use Rattle.compare_report.specs.Prelude.{length, IfOk, RoseBy, IsComparison, side, AreSides};
 
 use outside::Ground;
 use path_text::OutOfMemory;

@@ -1,6 +1,6 @@
 //! The lists that are saved of a comparison.
-ghost use Rattle.compare_report.specs.Prelude.{◌≡◌, ◌++◌, ◌∷◌, [], not, if◌then◌else◌, map, All, OnOk, IfOk, true, IsStrictlySortedBy, path_cmp, is_shaped};
-ghost use Rattle.compare_report.specs.Prelude.{paths, only_dest, side, IsSide};
+ghost use Rattle.std.specs.Prelude.{◌≡◌, ◌++◌, ◌∷◌, if◌then◌else◌};
+ghost use Rattle.compare_report.specs.Prelude.{[], not, map, All, OnOk, IfOk, true, IsStrictlySortedBy, path_cmp, is_shaped, paths, only_dest, side, IsSide};
 ghost use Rattle.compare_report.specs.Outputs.{is_given, given_paths, IsSelected, AreOutputs};
 
 use crate::picking::joined;

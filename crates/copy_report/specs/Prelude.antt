@@ -1,6 +1,6 @@
 -- The names from elsewhere that the contracts of this crate cite, passed on from one place. Declares nothing.
 pub use Rattle.std.specs.List.{count_by}
-pub use Rattle.std.specs.Prelude.{All, IfErr, IfOk, IfSome, Ok, [], false, is_some, length, ◌∷◌, ◌≡◌, ◌≤◌}
+pub use Rattle.std.specs.Prelude.{All, IfErr, IfOk, IfSome, Ok, [], false, is_some, length}
 pub use Rattle.level_work.specs.Counts.{is_done}
 pub use Rattle.tree_copy.specs.Copying.{SameButTargets, bytes_copied}
 pub use Rattle.tree_copy.specs.Placing.{IsPair}

@@ -1,5 +1,6 @@
 //! The copy of the entries of the walk, and its texts.
-ghost use Rattle.copy_report.specs.Prelude.{◌≡◌, ◌≤◌, IfOk, IfSome, is_some, count_by, RoseBy, nothing_lent, CommonWithin, side_of, is_done, SameButTargets};
+ghost use Rattle.std.specs.Prelude.{◌≡◌, ◌≤◌};
+ghost use Rattle.copy_report.specs.Prelude.{IfOk, IfSome, is_some, count_by, RoseBy, nothing_lent, CommonWithin, side_of, is_done, SameButTargets};
 ghost use Rattle.copy_report.specs.Prelude.{bytes_copied};
 ghost use Rattle.copy_report.specs.Copying.{Copies};
 ghost use Rattle.copy_report.specs.PrivateSteps.{CanBeCopied, TellsCopies};

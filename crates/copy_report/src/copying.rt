@@ -1,5 +1,6 @@
 //! The work of dcp.
-ghost use Rattle.copy_report.specs.Prelude.{◌≡◌, [], Ok, IfOk, IfErr, RoseBy, nothing_lent, side_of, WithinCopy};
+ghost use Rattle.std.specs.Prelude.{◌≡◌};
+ghost use Rattle.copy_report.specs.Prelude.{[], Ok, IfOk, IfErr, RoseBy, nothing_lent, side_of, WithinCopy};
 ghost use Rattle.copy_report.specs.Copying.{copy_asked, ReportsCopy, StopsCopy, LeavesCopy};
 
 use crate::acting::copy_and_tell;

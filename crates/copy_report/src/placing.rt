@@ -1,5 +1,6 @@
 //! The look at the destination.
-ghost use Rattle.copy_report.specs.Prelude.{◌≡◌, ◌≤◌, All, length, Ok, IfOk, IfErr, RoseBy, side_of, IsPair};
+ghost use Rattle.std.specs.Prelude.{◌≡◌, ◌≤◌};
+ghost use Rattle.copy_report.specs.Prelude.{All, length, Ok, IfOk, IfErr, RoseBy, side_of, IsPair};
 ghost use Rattle.copy_report.specs.Placing.{Places};
 ghost use Rattle.copy_report.specs.PrivateSteps.{ArePlaced, StopsPlacing};
 

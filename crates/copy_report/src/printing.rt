@@ -1,5 +1,6 @@
 //! The texts of a copy.
-ghost use Rattle.copy_report.specs.Prelude.{◌≡◌, ◌∷◌, [], false, length, IfOk, note_lines};
+ghost use Rattle.std.specs.Prelude.{◌≡◌, ◌∷◌};
+ghost use Rattle.copy_report.specs.Prelude.{[], false, length, IfOk, note_lines};
 ghost use Rattle.copy_report.specs.Copying.{copied_line};
 
 use level_work::Fate;

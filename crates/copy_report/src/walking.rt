@@ -1,5 +1,6 @@
 //! The walk of the sources.
-ghost use Rattle.copy_report.specs.Prelude.{◌≡◌, ◌≤◌, length, IfOk, IfErr, RoseBy, max_entries, CommonWithin, side_of, roots, Walked, StopsListing};
+ghost use Rattle.std.specs.Prelude.{◌≡◌, ◌≤◌};
+ghost use Rattle.copy_report.specs.Prelude.{length, IfOk, IfErr, RoseBy, max_entries, CommonWithin, side_of, roots, Walked, StopsListing};
 ghost use Rattle.copy_report.specs.PrivateSteps.{ArePlaced, CanBeCopied};
 
 use flat_list::FlatList;

@@ -1,7 +1,7 @@
 -- The names from elsewhere that the contracts of this crate cite, passed on from one place. Declares nothing.
 pub use Rattle.std.specs.List.{sum_by}
 pub use Rattle.std.specs.List.Sorted.{IsStrictlySortedBy}
-pub use Rattle.std.specs.Prelude.{IfErr, IfOk, IfSome, length, ◌<◌, ◌^◌, ◌≡◌, ◌≤◌}
+pub use Rattle.std.specs.Prelude.{IfErr, IfOk, IfSome, length}
 pub use Rattle.tree_cmp.specs.Readers.{StatsTold}
 pub use Rattle.tree_dup.specs.Grouping.{IsGrouping}
 pub use Rattle.tool_words.specs.Asked.{roots}

@@ -1,6 +1,7 @@
 //! The walk, and the groups of the files that it lists.
-ghost use Rattle.dup_report.specs.Prelude.{◌≡◌, ◌≤◌, length, IfOk, IfErr, IfSome, IsStrictlySortedBy, path_cmp, RoseBy, paths, max_entries, CommonWithin};
-ghost use Rattle.dup_report.specs.Prelude.{side_of, StatsTold, IsGrouping, roots, Walked, StopsListing};
+ghost use Rattle.std.specs.Prelude.{◌≡◌, ◌≤◌};
+ghost use Rattle.dup_report.specs.Prelude.{length, IfOk, IfErr, IfSome, IsStrictlySortedBy, path_cmp, RoseBy, paths, max_entries, CommonWithin, side_of};
+ghost use Rattle.dup_report.specs.Prelude.{StatsTold, IsGrouping, roots, Walked, StopsListing};
 
 use flat_list::FlatList;
 use outside::Ground;

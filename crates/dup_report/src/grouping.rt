@@ -1,5 +1,6 @@
 //! The work of ddup.
-ghost use Rattle.dup_report.specs.Prelude.{◌≡◌, IfOk, IfErr, RoseBy, side_of, WithinDup};
+ghost use Rattle.std.specs.Prelude.{◌≡◌};
+ghost use Rattle.dup_report.specs.Prelude.{IfOk, IfErr, RoseBy, side_of, WithinDup};
 ghost use Rattle.dup_report.specs.Grouping.{dup_asked, ReportsDup, StopsDup, LeavesDup};
 
 use crate::finding::{group_listed, walk_listed};

@@ -1,5 +1,6 @@
 //! The texts of groups.
-ghost use Rattle.dup_report.specs.Prelude.{◌≡◌, ◌<◌, ◌^◌, length, IfOk, sum_by, file_count, groups_text, note_lines};
+ghost use Rattle.std.specs.Prelude.{◌≡◌, ◌<◌, ◌^◌};
+ghost use Rattle.dup_report.specs.Prelude.{length, IfOk, sum_by, file_count, groups_text, note_lines};
 
 use path_text::OutOfMemory;
 use run_entries::report_with;

@@ -1,5 +1,6 @@
 //! The work of dwalk and dfind.
-ghost use Rattle.list_report.specs.Prelude.{◌≡◌, [], IfOk, IfErr, RoseBy, nothing_lent, CommonWithin, side_of};
+ghost use Rattle.std.specs.Prelude.{◌≡◌};
+ghost use Rattle.list_report.specs.Prelude.{[], IfOk, IfErr, RoseBy, nothing_lent, CommonWithin, side_of};
 ghost use Rattle.list_report.specs.Lists.{list_asked, ReportsList, StopsList, LeavesList};
 
 use crate::printing::list_report;

@@ -1,5 +1,6 @@
 //! The work of dtest.
-ghost use Rattle.list_report.specs.Prelude.{◌≡◌, ◌≤◌, ◌∷◌, [], IfOk, IfErr, CommonWithin};
+ghost use Rattle.std.specs.Prelude.{◌≡◌, ◌≤◌, ◌∷◌};
+ghost use Rattle.list_report.specs.Prelude.{[], IfOk, IfErr, CommonWithin};
 ghost use Rattle.list_report.specs.Tests.{test_asked, made_root, ReportsTest, StopsTest};
 
 use crate::laws::made_walk_is_fine;

@@ -1,5 +1,6 @@
 //! The texts of the entries found.
-ghost use Rattle.list_report.specs.Prelude.{◌≡◌, ◌++◌, List, length, IfOk, Entry, summary_of, lines_of, InOrder, notes_text};
+ghost use Rattle.std.specs.Prelude.{◌≡◌, ◌++◌};
+ghost use Rattle.list_report.specs.Prelude.{List, length, IfOk, Entry, summary_of, lines_of, InOrder, notes_text};
 ghost use Rattle.list_report.specs.Lists.{summary_text};
 
 use flat_list::{Field, Summary};

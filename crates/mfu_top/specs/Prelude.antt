@@ -1,5 +1,5 @@
 -- The names from elsewhere that the contracts of this crate cite, passed on from one place. Declares nothing.
-pub use Rattle.std.specs.Prelude.{Err, IfErr, IfOk, IfSome, IsErr, None, Ok, [], map, string_bytes, true, ℕ, ◌<◌, ◌≡◌, ◌⊎◌}
+pub use Rattle.std.specs.Prelude.{Err, IfErr, IfOk, IfSome, IsErr, None, Ok, [], map, string_bytes, true, ℕ}
 pub use Rattle.outside.specs.Count.{StoodStill}
 pub use Rattle.tool_words.specs.Asked.{asked_by}
 pub use Rattle.tool_words.specs.Limits.{Within}

@@ -1,5 +1,6 @@
 //! The work of each tool, up to the texts, a line a tool.
-ghost use Rattle.mfu_top.specs.Prelude.{◌≡◌, [], IfOk, IfErr, true, RoseBy, nothing_lent, side_of, asked_by, Within};
+ghost use Rattle.std.specs.Prelude.{◌≡◌};
+ghost use Rattle.mfu_top.specs.Prelude.{[], IfOk, IfErr, true, RoseBy, nothing_lent, side_of, asked_by, Within};
 ghost use Rattle.mfu_top.specs.Run.{Reports, Stops, Leaves, is_apart};
 
 use crate::walks::{report_of_walk, walk_task};

@@ -1,7 +1,8 @@
 //! The run.
-ghost use Rattle.mfu_top.specs.Prelude.{◌≡◌, ◌⊎◌, ◌<◌, [], ℕ, map, string_bytes, Ok, Err, IfOk, IfErr, IfSome, IsErr, true, RoseBy, nothing_lent, side_of};
-ghost use Rattle.mfu_top.specs.Prelude.{StoodStill, asked_by, refusal_in, reading, Within, Report, Stop, Grew, GrewBySome, GrewByLine, Printed, memory_line};
-ghost use Rattle.mfu_top.specs.Prelude.{refusal_line, stream_of, has_reason, status_of, stop_line};
+ghost use Rattle.std.specs.Prelude.{◌≡◌, ◌⊎◌, ◌<◌};
+ghost use Rattle.mfu_top.specs.Prelude.{[], ℕ, map, string_bytes, Ok, Err, IfOk, IfErr, IfSome, IsErr, true, RoseBy, nothing_lent, side_of, StoodStill};
+ghost use Rattle.mfu_top.specs.Prelude.{asked_by, refusal_in, reading, Within, Report, Stop, Grew, GrewBySome, GrewByLine, Printed, memory_line, refusal_line};
+ghost use Rattle.mfu_top.specs.Prelude.{stream_of, has_reason, status_of, stop_line};
 ghost use Rattle.mfu_top.specs.Run.{Reports, Stops, Leaves, is_apart, Fine, EndedWell};
 
 use crate::laws::fine_runs_succeed;

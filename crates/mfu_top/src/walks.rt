@@ -1,5 +1,6 @@
 //! The command of dwalk: a list, or a stage of a walk.
-ghost use Rattle.mfu_top.specs.Prelude.{◌≡◌, [], IfOk, IfErr, None, RoseBy, nothing_lent, side_of, asked_by, Within};
+ghost use Rattle.std.specs.Prelude.{◌≡◌};
+ghost use Rattle.mfu_top.specs.Prelude.{[], IfOk, IfErr, None, RoseBy, nothing_lent, side_of, asked_by, Within};
 ghost use Rattle.mfu_top.specs.Run.{Reports, Stops, Leaves};
 ghost use Rattle.mfu_top.specs.Walks.{asked_of};
 

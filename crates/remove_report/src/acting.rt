@@ -1,5 +1,6 @@
 //! The removal, and its texts.
-ghost use Rattle.remove_report.specs.Prelude.{◌≡◌, ◌≤◌, [], true, IfOk, IfSome, is_some, RoseBy, nothing_lent, paths, CommonWithin, side_of, count_by, is_done};
+ghost use Rattle.std.specs.Prelude.{◌≡◌, ◌≤◌};
+ghost use Rattle.remove_report.specs.Prelude.{[], true, IfOk, IfSome, is_some, RoseBy, nothing_lent, paths, CommonWithin, side_of, count_by, is_done};
 ghost use Rattle.remove_report.specs.Prelude.{SameButChosen};
 ghost use Rattle.remove_report.specs.Choosing.{Acts};
 ghost use Rattle.remove_report.specs.PrivateActs.{CanBeRemoved, TellsRemovals};

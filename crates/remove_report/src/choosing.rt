@@ -1,5 +1,6 @@
 //! The choice of entries to remove.
-ghost use Rattle.remove_report.specs.Prelude.{◌≡◌, All, IfOk, IfErr, IfSome, Some, RoseBy, CommonWithin, side_of, roots, choice_in, Lower, Finds, StopsFinding};
+ghost use Rattle.std.specs.Prelude.{◌≡◌};
+ghost use Rattle.remove_report.specs.Prelude.{All, IfOk, IfErr, IfSome, Some, RoseBy, CommonWithin, side_of, roots, choice_in, Lower, Finds, StopsFinding};
 ghost use Rattle.remove_report.specs.PrivateActs.{CanBeRemoved};
 
 use outside::Ground;

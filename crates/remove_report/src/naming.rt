@@ -1,5 +1,6 @@
 //! The notes of a removal.
-ghost use Rattle.remove_report.specs.Prelude.{◌++◌, IfOk, AreInOrder, removal_notes};
+ghost use Rattle.std.specs.Prelude.{◌++◌};
+ghost use Rattle.remove_report.specs.Prelude.{IfOk, AreInOrder, removal_notes};
 
 use level_work::Fate;
 use path_text::{OutOfMemory, Path};

@@ -1,5 +1,6 @@
 //! The texts of a removal.
-ghost use Rattle.remove_report.specs.Prelude.{◌≡◌, ◌++◌, length, IfOk, lines_of, note_lines};
+ghost use Rattle.std.specs.Prelude.{◌≡◌, ◌++◌};
+ghost use Rattle.remove_report.specs.Prelude.{length, IfOk, lines_of, note_lines};
 ghost use Rattle.remove_report.specs.Removing.{removed_line};
 
 use flat_list::FlatList;

@@ -1,5 +1,6 @@
 //! The work of drm.
-ghost use Rattle.remove_report.specs.Prelude.{◌≡◌, IfOk, IfErr, RoseBy, nothing_lent, side_of, WithinRemove};
+ghost use Rattle.std.specs.Prelude.{◌≡◌};
+ghost use Rattle.remove_report.specs.Prelude.{IfOk, IfErr, RoseBy, nothing_lent, side_of, WithinRemove};
 ghost use Rattle.remove_report.specs.Removing.{remove_asked, ReportsRemove, StopsRemove, LeavesRemove};
 
 use crate::acting::remove_and_tell;

@@ -3,8 +3,7 @@ pub use Rattle.std.specs.FinMap.{get}
 pub use Rattle.std.specs.List.{flat_map}
 pub use Rattle.std.specs.List.Sorted.{IsStrictlySortedBy}
 pub use Rattle.std.specs.Option.{option_map, option_to_list}
-pub use Rattle.std.specs.Prelude.{All, IfErr, IfOk, IfSome, IsErrOf, List, None, OnOk, Some, [], false, filter, if◌then◌else◌, is_some, length, map, true, ◌++◌}
-pub use Rattle.std.specs.Prelude.{◌<◌, ◌∷◌, ◌≡◌, ◌≤◌}
+pub use Rattle.std.specs.Prelude.{All, IfErr, IfOk, IfSome, IsErrOf, List, None, OnOk, Some, [], false, filter, is_some, length, map, true}
 pub use Rattle.outside.specs.Whole.{HoldsFile}
 pub use Rattle.tree_walk.specs.Found.{FoundTooMany, IfTooMany, IsFound}
 pub use Rattle.tree_walk.specs.Roots.{Apart}

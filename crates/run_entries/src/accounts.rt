@@ -1,5 +1,6 @@
 //! The reports on a walk, beside its list.
-ghost use Rattle.run_entries.specs.Prelude.{◌≡◌, ◌++◌, [], if◌then◌else◌, OnOk};
+ghost use Rattle.std.specs.Prelude.{◌≡◌, ◌++◌, if◌then◌else◌};
+ghost use Rattle.run_entries.specs.Prelude.{[], OnOk};
 ghost use Rattle.run_entries.specs.Tells.{told_text};
 
 use circle_run::Share;

@@ -1,6 +1,7 @@
 //! The walks of a source and of a destination, each by itself.
-ghost use Rattle.run_entries.specs.Prelude.{◌≡◌, ◌≤◌, ◌∷◌, [], All, length, IfOk, IfErr, IfSome, None, true, refusal, RoseBy, is_shaped, max_entries};
-ghost use Rattle.run_entries.specs.Prelude.{CommonWithin, side_of, StatsTold, side, IsSide, roots};
+ghost use Rattle.std.specs.Prelude.{◌≡◌, ◌≤◌, ◌∷◌};
+ghost use Rattle.run_entries.specs.Prelude.{[], All, length, IfOk, IfErr, IfSome, None, true, refusal, RoseBy, is_shaped, max_entries, CommonWithin, side_of};
+ghost use Rattle.run_entries.specs.Prelude.{StatsTold, side, IsSide, roots};
 ghost use Rattle.run_entries.specs.Both.{AreSides, StopsEitherWalk, WalksBoth};
 ghost use Rattle.run_entries.specs.Entries.{Walked};
 ghost use Rattle.run_entries.specs.Stopping.{StopsListing};

@@ -1,5 +1,6 @@
 //! The choice of entries from a list.
-ghost use Rattle.run_entries.specs.Prelude.{◌≡◌, ◌++◌, map, filter, OnOk, IfOk, is_selected};
+ghost use Rattle.std.specs.Prelude.{◌≡◌, ◌++◌};
+ghost use Rattle.run_entries.specs.Prelude.{map, filter, OnOk, IfOk, is_selected};
 ghost use Rattle.run_entries.specs.Choosing.{newer_than};
 
 use find_tests::{Test, select_from};

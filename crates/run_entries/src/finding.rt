@@ -1,5 +1,6 @@
 //! The entries that a run finds.
-ghost use Rattle.run_entries.specs.Prelude.{◌≡◌, All, IfOk, IfErr, Some, None, true, IsStrictlySortedBy, option_map, path_cmp, RoseBy, is_shaped, paths};
+ghost use Rattle.std.specs.Prelude.{◌≡◌};
+ghost use Rattle.run_entries.specs.Prelude.{All, IfOk, IfErr, Some, None, true, IsStrictlySortedBy, option_map, path_cmp, RoseBy, is_shaped, paths};
 ghost use Rattle.run_entries.specs.Prelude.{CommonWithin, side_of, start_in, choice_in};
 ghost use Rattle.run_entries.specs.Entries.{Finds};
 ghost use Rattle.run_entries.specs.Stopping.{StopsFinding};

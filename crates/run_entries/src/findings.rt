@@ -1,5 +1,6 @@
 //! The entries that a run finds, and their summary.
-ghost use Rattle.run_entries.specs.Prelude.{◌≡◌, summary_of};
+ghost use Rattle.std.specs.Prelude.{◌≡◌};
+ghost use Rattle.run_entries.specs.Prelude.{summary_of};
 
 use crate::accounts::Account;
 use crate::naming::counted_failures;

@@ -1,5 +1,6 @@
 //! The notes of a run.
-ghost use Rattle.run_entries.specs.Prelude.{◌≡◌, ◌++◌, [], OnOk, IfOk, option_to_list, flat_map, summary_of, AreInOrder, false};
+ghost use Rattle.std.specs.Prelude.{◌≡◌, ◌++◌};
+ghost use Rattle.run_entries.specs.Prelude.{[], OnOk, IfOk, option_to_list, flat_map, summary_of, AreInOrder, false};
 ghost use Rattle.run_entries.specs.Naming.{copy_notes, copy_whys, failures_in, listing_notes, look_notes, look_whys, notes_by, path_notes, removal_notes};
 ghost use Rattle.run_entries.specs.Naming.{removal_whys};
 

@@ -1,5 +1,6 @@
 //! The text of the notes, and a report that ends with it.
-ghost use Rattle.run_entries.specs.Prelude.{◌≡◌, IfOk, length, note_lines};
+ghost use Rattle.std.specs.Prelude.{◌≡◌};
+ghost use Rattle.run_entries.specs.Prelude.{IfOk, length, note_lines};
 ghost use Rattle.run_entries.specs.Entries.{notes_text};
 
 use crate::accounts::Account;

@@ -1,6 +1,7 @@
 //! A list file, read.
-ghost use Rattle.run_entries.specs.Prelude.{◌≡◌, ◌≤◌, All, length, IfOk, IfErr, IfSome, IsErrOf, true, false, get, IsStrictlySortedBy, path_cmp, RoseBy};
-ghost use Rattle.run_entries.specs.Prelude.{is_file, is_shaped, paths, max_entries, side_of, HoldsFile, input};
+ghost use Rattle.std.specs.Prelude.{◌≡◌, ◌≤◌};
+ghost use Rattle.run_entries.specs.Prelude.{All, length, IfOk, IfErr, IfSome, IsErrOf, true, false, get, IsStrictlySortedBy, path_cmp, RoseBy, is_file};
+ghost use Rattle.run_entries.specs.Prelude.{is_shaped, paths, max_entries, side_of, HoldsFile, input};
 ghost use Rattle.run_entries.specs.Entries.{IsRead};
 ghost use Rattle.run_entries.specs.Stopping.{StopsListing};
 

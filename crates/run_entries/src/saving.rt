@@ -1,5 +1,6 @@
 //! List files, written.
-ghost use Rattle.run_entries.specs.Prelude.{◌≡◌, [], map, All, OnOk, IfErr, IfSome, is_some, true, option_to_list, IsStrictlySortedBy, path_cmp, RoseBy};
+ghost use Rattle.std.specs.Prelude.{◌≡◌};
+ghost use Rattle.run_entries.specs.Prelude.{[], map, All, OnOk, IfErr, IfSome, is_some, true, option_to_list, IsStrictlySortedBy, path_cmp, RoseBy};
 ghost use Rattle.run_entries.specs.Prelude.{nothing_lent, SameBut, is_shaped, paths, side_of};
 ghost use Rattle.run_entries.specs.Saving.{SavedAt, Saved, output_of, SameButOutputs};
 ghost use Rattle.run_entries.specs.Stopping.{StopsAt, StopsSaving};

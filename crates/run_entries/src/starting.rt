@@ -1,6 +1,7 @@
 //! The entries of a run, before the choice.
-ghost use Rattle.run_entries.specs.Prelude.{◌≡◌, ◌<◌, ◌≤◌, List, All, length, IfOk, IfErr, true, IsStrictlySortedBy, path_cmp, RoseBy, is_shaped, paths};
-ghost use Rattle.run_entries.specs.Prelude.{max_entries, CommonWithin, side_of, roots, start_in, IsFound, IfTooMany, FoundTooMany, Apart};
+ghost use Rattle.std.specs.Prelude.{◌≡◌, ◌<◌, ◌≤◌};
+ghost use Rattle.run_entries.specs.Prelude.{List, All, length, IfOk, IfErr, true, IsStrictlySortedBy, path_cmp, RoseBy, is_shaped, paths, max_entries};
+ghost use Rattle.run_entries.specs.Prelude.{CommonWithin, side_of, roots, start_in, IsFound, IfTooMany, FoundTooMany, Apart};
 ghost use Rattle.run_entries.specs.Entries.{Walked, Listed, Tells};
 ghost use Rattle.run_entries.specs.Stopping.{IsTooLongWalk, StopsListing, stop_of_walk};
 ghost use Rattle.run_entries.specs.Tells.{keeps_events, IsAccount};

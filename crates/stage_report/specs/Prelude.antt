@@ -1,7 +1,7 @@
 -- The names from elsewhere that the contracts of this crate cite, passed on from one place. Declares nothing.
 pub use Rattle.std.specs.List.Sorted.{IsStrictlySortedBy}
 pub use Rattle.std.specs.Option.{option_map}
-pub use Rattle.std.specs.Prelude.{All, IfErr, IfOk, IfSome, None, OnOk, Some, [], is_some, length, map, true, ◌≡◌, ◌≤◌, ◌⊎◌}
+pub use Rattle.std.specs.Prelude.{All, IfErr, IfOk, IfSome, None, OnOk, Some, [], is_some, length, map, true}
 pub use Rattle.tree_walk.specs.Cut.{IsJoined, found_in}
 pub use Rattle.tree_walk.specs.Roots.{Apart}
 pub use Rattle.tree_walk.specs.Walk.{paths_of}

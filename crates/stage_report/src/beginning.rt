@@ -1,5 +1,6 @@
 //! Where a stage begins.
-ghost use Rattle.stage_report.specs.Prelude.{◌≡◌, ◌⊎◌, map, IfOk, IfErr, None, option_map, RoseBy, side_of, Apart, StopsReading};
+ghost use Rattle.std.specs.Prelude.{◌≡◌, ◌⊎◌};
+ghost use Rattle.stage_report.specs.Prelude.{map, IfOk, IfErr, None, option_map, RoseBy, side_of, Apart, StopsReading};
 ghost use Rattle.stage_report.specs.Stages.{Begins, all_of};
 ghost use Rattle.stage_report.specs.Private.{IsBeside, IsWritable};
 

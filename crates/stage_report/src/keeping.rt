@@ -1,5 +1,6 @@
 //! The checkpoint that a stage leaves.
-ghost use Rattle.stage_report.specs.Prelude.{◌≡◌, ◌≤◌, [], All, length, map, IfOk, IfErr, OnOk, IfSome, is_some, true, IsStrictlySortedBy, path_cmp, RoseBy};
+ghost use Rattle.std.specs.Prelude.{◌≡◌, ◌≤◌};
+ghost use Rattle.stage_report.specs.Prelude.{[], All, length, map, IfOk, IfErr, OnOk, IfSome, is_some, true, IsStrictlySortedBy, path_cmp, RoseBy};
 ghost use Rattle.stage_report.specs.Prelude.{nothing_lent, is_shaped, paths, side_of, IsKept, checkpoint_paths, StopsWriting, SameButAll};
 ghost use Rattle.stage_report.specs.Stages.{all_of};
 

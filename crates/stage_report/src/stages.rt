@@ -1,5 +1,6 @@
 //! The work of a dwalk in stages.
-ghost use Rattle.stage_report.specs.Prelude.{◌≡◌, [], IfOk, IfErr, RoseBy, nothing_lent, CommonWithin, side_of, option_map, WithinStage};
+ghost use Rattle.std.specs.Prelude.{◌≡◌};
+ghost use Rattle.stage_report.specs.Prelude.{[], IfOk, IfErr, RoseBy, nothing_lent, CommonWithin, side_of, option_map, WithinStage};
 ghost use Rattle.stage_report.specs.Stages.{stage_asked, ReportsStage, StopsStage, LeavesStage};
 ghost use Rattle.stage_report.specs.Private.{list_in, IsWritable, Walks, WalksNot};
 

@@ -1,6 +1,7 @@
 //! The walk of a stage.
-ghost use Rattle.stage_report.specs.Prelude.{◌≡◌, ◌≤◌, length, IfOk, IfErr, Some, IsStrictlySortedBy, path_cmp, RoseBy, max_entries, CommonWithin, Apart};
-ghost use Rattle.stage_report.specs.Prelude.{paths_of, found_in};
+ghost use Rattle.std.specs.Prelude.{◌≡◌, ◌≤◌};
+ghost use Rattle.stage_report.specs.Prelude.{length, IfOk, IfErr, Some, IsStrictlySortedBy, path_cmp, RoseBy, max_entries, CommonWithin, Apart, paths_of};
+ghost use Rattle.stage_report.specs.Prelude.{found_in};
 ghost use Rattle.stage_report.specs.Private.{list_in, IsBeside, IsStage, IsStageOf, IsWritable, StopsWalk};
 
 use crate::beginning::Beginning;

@@ -1,5 +1,6 @@
 //! The sync.
-ghost use Rattle.sync_report.specs.Prelude.{◌≡◌, IfOk, IfSome, is_some, RoseBy, nothing_lent, CommonWithin, side_of, SameOutside};
+ghost use Rattle.std.specs.Prelude.{◌≡◌};
+ghost use Rattle.sync_report.specs.Prelude.{IfOk, IfSome, is_some, RoseBy, nothing_lent, CommonWithin, side_of, SameOutside};
 ghost use Rattle.sync_report.specs.PrivateSteps.{IsReady, MakesEqual};
 ghost use Rattle.sync_report.specs.Syncing.{Syncs};
 

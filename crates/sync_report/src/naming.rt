@@ -1,5 +1,6 @@
 //! The notes of a sync.
-ghost use Rattle.sync_report.specs.Prelude.{◌≡◌, ◌++◌, OnOk, IfOk, filter, not, AreInOrder};
+ghost use Rattle.std.specs.Prelude.{◌≡◌, ◌++◌};
+ghost use Rattle.sync_report.specs.Prelude.{OnOk, IfOk, filter, not, AreInOrder};
 ghost use Rattle.sync_report.specs.Syncing.{dest_notes, says_absent, sync_failures};
 
 use flat_list::FlatList;

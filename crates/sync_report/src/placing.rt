@@ -1,5 +1,6 @@
 //! The look at the parent of the destination.
-ghost use Rattle.sync_report.specs.Prelude.{◌≡◌, IfErr, OnOk, RoseBy, side_of};
+ghost use Rattle.std.specs.Prelude.{◌≡◌};
+ghost use Rattle.sync_report.specs.Prelude.{IfErr, OnOk, RoseBy, side_of};
 ghost use Rattle.sync_report.specs.PrivateSteps.{IsPlaced, StopsPlacing};
 
 use outside::Ground;

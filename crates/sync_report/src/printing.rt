@@ -1,5 +1,6 @@
 //! The texts of a sync.
-ghost use Rattle.sync_report.specs.Prelude.{◌≡◌, ◌∷◌, [], false, length, IfOk, note_lines, synced_line};
+ghost use Rattle.std.specs.Prelude.{◌≡◌, ◌∷◌};
+ghost use Rattle.sync_report.specs.Prelude.{[], false, length, IfOk, note_lines, synced_line};
 ghost use Rattle.sync_report.specs.Syncing.{counts_of};
 
 use path_text::{OutOfMemory, Path};

@@ -1,5 +1,6 @@
 //! The work of dsync.
-ghost use Rattle.sync_report.specs.Prelude.{◌≡◌, [], IfOk, IfErr, RoseBy, nothing_lent, side_of, WithinSync};
+ghost use Rattle.std.specs.Prelude.{◌≡◌};
+ghost use Rattle.sync_report.specs.Prelude.{[], IfOk, IfErr, RoseBy, nothing_lent, side_of, WithinSync};
 ghost use Rattle.sync_report.specs.Syncing.{sync_asked, ReportsSync, StopsSync, LeavesSync};
 
 use crate::acting::sync_sides;

@@ -1,5 +1,6 @@
 //! The walks of both sides.
-ghost use Rattle.sync_report.specs.Prelude.{◌≡◌, IfOk, IfErr, RoseBy, CommonWithin, side_of, WalksBoth, StopsEitherWalk};
+ghost use Rattle.std.specs.Prelude.{◌≡◌};
+ghost use Rattle.sync_report.specs.Prelude.{IfOk, IfErr, RoseBy, CommonWithin, side_of, WalksBoth, StopsEitherWalk};
 ghost use Rattle.sync_report.specs.PrivateSteps.{IsPlaced, IsReady};
 
 use outside::{Ground, nodes_have_paths};
