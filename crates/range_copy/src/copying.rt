@@ -61,11 +61,11 @@ where
         rt,
         alloc,
         ground,
-        &mut fillers,
         source,
         target,
-        &cuts,
         size,
+        &cuts,
+        &mut fillers,
         hosts,
     );
     // The count of faults is a number of 64 bits.
@@ -116,37 +116,37 @@ fn copied<R: Threads + Sync, G: Wide>(
     rt: &R,
     alloc: Global,
     ground: &mut G,
-    fillers: &mut [Filler<G::Reader, G::Span>],
     source: &Path,
     target: &Path,
-    cuts: &[u64],
     size: u64,
+    cuts: &[u64],
+    fillers: &mut [Filler<G::Reader, G::Span>],
     hosts: u32,
 ) -> Result<Came, RangeError>
 where
     G::Reader: Send,
     G::Span: Send,
+    requires source { IfSome (G.tree ground.old) (IsSource source.now size) }
+    requires stand { IfSome (G.tree ground.old) (λ before. is_dir (get before (parent_of target.now)) ≡ true) }
+    requires root { is_root target.now ≡ false }
+    requires lent { G.area ground.old ≡ nothing_lent }
     requires cuts { IsTrue (are_cuts cuts.now) }
     requires whole { end_of cuts.now ≡ size }
     requires hosts { 1 ≤ hosts }
-    requires lent { G.area ground.old ≡ nothing_lent }
-    requires root { is_root target.now ≡ false }
     requires some { 0 < length fillers.old }
+    requires see { AllSee G.Reader.tree (G.tree ground.old) fillers.old }
     requires idle { AreIdle fillers.old }
     requires fresh { AreFresh G.Reader.count fillers.old }
     requires shown { AreFreshBy G.Reader.gives source.now fillers.old }
-    requires see { AllSee G.Reader.tree (G.tree ground.old) fillers.old }
-    requires source { IfSome (G.tree ground.old) (IsSource source.now size) }
-    requires stand { IfSome (G.tree ground.old) (λ before. is_dir (get before (parent_of target.now)) ≡ true) }
+    ensures lent { G.area ground.new ≡ nothing_lent }
+    ensures count { RoseBy 0 (G.count ground.old) (G.count ground.new) }
+    ensures tells { is_some (G.tree ground.new) ≡ is_some (G.tree ground.old) }
+    ensures others { IfSome (G.tree ground.old) (λ before. IfSome (G.tree ground.new) (SameBut target.now before)) }
+    ensures shown { IfOk result (λ came. ShowsSpans G.Reader.gives G.gives G.area G.count source.now target.now size (fate_of came)) }
     ensures told { IfOk result (λ came. IfSome (G.tree ground.old) (λ before. IfSome (G.tree ground.new) (λ after.
         IsLeft (content (get before source.now)) (get before target.now) (get after target.now) came))) }
     ensures cause { IfOk result (λ came. came ≡ Came.Failed →
         (RoseBy 1 (G.count ground.old) (G.count ground.new)) ⊎ (1 ≤ reader_faults G.Reader.count fillers.new)) }
-    ensures shown { IfOk result (λ came. ShowsSpans G.Reader.gives G.gives G.area G.count source.now target.now size (fate_of came)) }
-    ensures others { IfSome (G.tree ground.old) (λ before. IfSome (G.tree ground.new) (SameBut target.now before)) }
-    ensures tells { is_some (G.tree ground.new) ≡ is_some (G.tree ground.old) }
-    ensures lent { G.area ground.new ≡ nothing_lent }
-    ensures count { RoseBy 0 (G.count ground.old) (G.count ground.new) }
 {
     let Filled::Done = outcome(fillers) else {
         return Ok(Came::Failed);

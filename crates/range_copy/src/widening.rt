@@ -40,17 +40,17 @@ where
     requires lent { G.area ground.old ≡ nothing_lent }
     requires list { CanCopy list.now pairs.now }
     requires fits { IfSome (G.tree ground.old) (FitsTree list.now pairs.now) }
-    ensures paths { IfOk result (λ report. map (λ row. row.0) report.0 ≡ paths (treated list.now)) }
-    ensures early { IfOk result (λ report. AreEarly list.now pairs.now report.0) }
     ensures told { IfOk result (λ report. IfSome (G.tree ground.old) (λ before. IfSome (G.tree ground.new) (Copied list.now pairs.now report.0 before))) }
-    ensures copied { IfOk result (λ report. report.1 ≡ count_by (λ row. is_done row.1) report.0) }
-    ensures bytes { IfOk result (λ report. report.2 ≡ bytes_copied list.now report.0) }
-    ensures blamed { IfOk result (λ report. RoseBy (count_by (λ row. is_failed row.1) report.0) (G.count ground.old) (G.count ground.new)) }
     ensures causes { IfOk result (λ report. HaveCauses G.Reader.gives G.Part.gives G.gives G.area G.count list.now pairs.now report.0) }
     ensures rest { IfSome (G.tree ground.old) (λ before. IfSome (G.tree ground.new) (SameButTargets pairs.now list.now before)) }
+    ensures blamed { IfOk result (λ report. RoseBy (count_by (λ row. is_failed row.1) report.0) (G.count ground.old) (G.count ground.new)) }
+    ensures paths { IfOk result (λ report. map (λ row. row.0) report.0 ≡ paths (treated list.now)) }
+    ensures early { IfOk result (λ report. AreEarly list.now pairs.now report.0) }
+    ensures copied { IfOk result (λ report. report.1 ≡ count_by (λ row. is_done row.1) report.0) }
+    ensures bytes { IfOk result (λ report. report.2 ≡ bytes_copied list.now report.0) }
     ensures tells { is_some (G.tree ground.new) ≡ is_some (G.tree ground.old) }
-    ensures lent { G.area ground.new ≡ nothing_lent }
     ensures count { RoseBy 0 (G.count ground.old) (G.count ground.new) }
+    ensures lent { G.area ground.new ≡ nothing_lent }
 {
     nodes_are_under_directories();
     // The call shows that the nodes are a tree.

@@ -24,11 +24,12 @@ impl Model for RemoveReport {
 }
 
 impl RemoveReport {
-    /// How many paths were chosen.
-    pub fn len(&self) -> usize
-        ensures { result ≡ length self.now.0 }
+    /// The fate of the path at a place.
+    pub fn fate(&self, k: usize) -> Fate
+        requires { k < length self.now.0 }
+        ensures { option_map (λ row. row.1) (slice_get self.now.0 k) ≡ Some result }
     {
-        self.rows.len()
+        self.rows[k].1
     }
 
     /// The path at a place.
@@ -39,12 +40,18 @@ impl RemoveReport {
         &self.rows[k].0
     }
 
-    /// The fate of the path at a place.
-    pub fn fate(&self, k: usize) -> Fate
-        requires { k < length self.now.0 }
-        ensures { option_map (λ row. row.1) (slice_get self.now.0 k) ≡ Some result }
+    /// How many paths were chosen.
+    pub fn len(&self) -> usize
+        ensures { result ≡ length self.now.0 }
     {
-        self.rows[k].1
+        self.rows.len()
+    }
+
+    /// How many of the paths are gone.
+    pub fn removed(&self) -> u64
+        ensures { result ≡ self.now.1 }
+    {
+        number_done(&self.rows)
     }
 
     /// The paths with their fates, in path order. They are moved.
@@ -53,12 +60,5 @@ impl RemoveReport {
     {
         let RemoveReport { rows } = self;
         rows
-    }
-
-    /// How many of the paths are gone.
-    pub fn removed(&self) -> u64
-        ensures { result ≡ self.now.1 }
-    {
-        number_done(&self.rows)
     }
 }
