@@ -12,14 +12,6 @@ pub struct Batch {
     pub(crate) paths: VecDeque<Path>,
 }
 
-impl Model for Batch {
-    ghost use Rattle.std.specs.Prelude.{List, ℕ};
-
-    ghost Value = { List (List ℕ) };
-
-    ghost view = { λ b. b.paths.items };
-}
-
 impl Batch {
     /// A batch with no path.
     pub fn make(alloc: Global) -> Batch
@@ -28,20 +20,6 @@ impl Batch {
         Batch {
             paths: VecDeque::new(alloc),
         }
-    }
-
-    /// How many paths it holds.
-    pub fn len(&self) -> usize
-        ensures { result ≡ length self.now }
-    {
-        self.paths.len()
-    }
-
-    /// Whether it holds none.
-    pub fn is_empty(&self) -> bool
-        ensures { result ≡ (length self.now == 0) }
-    {
-        self.paths.is_empty()
     }
 
     /// Adds a path. A refusal drops the path.
@@ -59,4 +37,26 @@ impl Batch {
     {
         self.paths.clear()
     }
+
+    /// Whether it holds none.
+    pub fn is_empty(&self) -> bool
+        ensures { result ≡ (length self.now == 0) }
+    {
+        self.paths.is_empty()
+    }
+
+    /// How many paths it holds.
+    pub fn len(&self) -> usize
+        ensures { result ≡ length self.now }
+    {
+        self.paths.len()
+    }
+}
+
+impl Model for Batch {
+    ghost use Rattle.std.specs.Prelude.{List, ℕ};
+
+    ghost Value = { List (List ℕ) };
+
+    ghost view = { λ b. b.paths.items };
 }
