@@ -137,10 +137,8 @@ not_busy : (x : RankState) → ¬ (is_busy x ≡ true) → x.queued ≡ 0
 not_busy x h = dite (ℕ_discrete x.queued 0) (λ e. e) (λ ne. absurd (h (grind (arith, nat_tests))))
 
 holds_nothing : (d : Desk) → ¬ (is_filled (mailbox_of d) ≡ true) → held d ≡ 0
-holds_nothing Rest h = refl
-holds_nothing (Asked i) h = refl
 holds_nothing (Full i k) h = absurd (h refl)
-holds_nothing (Empty i) h = refl
+holds_nothing _ h = refl
 
 pub queued_in-quiet : (ranks : List RankState) → IsQuiet (length ranks) (picture_of ranks) → queued_in ranks ≡ 0
 queued_in-quiet ranks quiet = zero_sum (λ r. r.queued) ranks (λ r below. not_busy (rank_of ranks r) (λ busy. quiet r (below, inl busy)))

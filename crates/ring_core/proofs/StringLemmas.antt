@@ -26,28 +26,20 @@ strings-set ranks r x less more inside change =
     change
 
 held_at_rest : (d : Desk) → is_rest d ≡ true → held d ≡ 0
-held_at_rest Rest e = refl
-held_at_rest (Asked i) e = refl
 held_at_rest (Full i k) e = cc
-held_at_rest (Empty i) e = refl
+held_at_rest _ e = refl
 
 held_asked : (d : Desk) (r : ℕ) → asks d r ≡ true → held d ≡ 0
-held_asked Rest r e = refl
-held_asked (Asked i) r e = refl
 held_asked (Full i k) r e = cc
-held_asked (Empty i) r e = refl
+held_asked _ r e = refl
 
 held_refused : (d : Desk) (r : ℕ) → is_refused_by d r ≡ true → held d ≡ 0
-held_refused Rest r e = refl
-held_refused (Asked i) r e = refl
 held_refused (Full i k) r e = cc
-held_refused (Empty i) r e = refl
+held_refused _ r e = refl
 
 held_full : (d : Desk) (r k : ℕ) → holds d r k ≡ true → held d ≡ k
-held_full Rest r k e = cc
-held_full (Asked i) r k e = cc
 held_full (Full i j) r k e = grind (arith, nat_tests)
-held_full (Empty i) r k e = cc
+held_full _ r k e = cc
 
 one_less : (q d kids : ℕ) → nat_lt 0 q ≡ true → ((q - 1 + kids) + d) + 1 ≡ (q + d) + kids
 one_less q d kids busy = grind (arith, nat_tests)

@@ -21,33 +21,23 @@ white_is White e = refl
 
 rest_is : (d : Desk) → is_rest d ≡ true → mailbox_of d ≡ at_rest
 rest_is Rest e = refl
-rest_is (Asked i) e = cc
-rest_is (Full i k) e = cc
-rest_is (Empty i) e = cc
+rest_is _ e = cc
 
 asks_is : (d : Desk) (r : ℕ) → asks d r ≡ true → mailbox_of d ≡ asked_of r
-asks_is Rest r e = cc
 asks_is (Asked i) r e = ap asked_of (grind (arith, nat_tests))
-asks_is (Full i k) r e = cc
-asks_is (Empty i) r e = cc
+asks_is _ r e = cc
 
 holds_is : (d : Desk) (r k : ℕ) → holds d r k ≡ true → mailbox_of d ≡ filled_by r
-holds_is Rest r k e = cc
-holds_is (Asked i) r k e = cc
 holds_is (Full i j) r k e = ap filled_by (grind (arith, nat_tests))
-holds_is (Empty i) r k e = cc
+holds_is _ r k e = cc
 
 holds_some : (d : Desk) (r k : ℕ) → holds d r k ≡ true → HoldsSome d → 0 < k
-holds_some Rest r k e some = cc
-holds_some (Asked i) r k e some = cc
 holds_some (Full i j) r k e some = let same : j ≡ k = grind (arith, nat_tests) in omega arith
-holds_some (Empty i) r k e some = cc
+holds_some _ r k e some = cc
 
 refused_is : (d : Desk) (r : ℕ) → is_refused_by d r ≡ true → mailbox_of d ≡ refused_by r
-refused_is Rest r e = cc
-refused_is (Asked i) r e = cc
-refused_is (Full i k) r e = cc
 refused_is (Empty i) r e = ap refused_by (grind (arith, nat_tests))
+refused_is _ r e = cc
 
 -- a colour that does not differ from the darker of the two is that
 is_darker : (c mine other : Colour) → differs (is_black c) (is_black mine || is_black other) ≡ false → c ≡ darker mine other
@@ -269,15 +259,7 @@ event_is_step_of_picture ranks token (SeeOver rank) some legal = see_over_is_ste
 -- an event leaves as many ranks as there were
 pub length-ranks_after : (ranks : List RankState) (event : Event) → length (ranks_after ranks event) ≡ length ranks
 length-ranks_after ranks (Handle rank path kids) = simp length-set
-length-ranks_after ranks (Ask rank victim) = simp length-set
-length-ranks_after ranks (Give rank to count) = simp length-set
-length-ranks_after ranks (Refuse rank to) = simp length-set
-length-ranks_after ranks (Take rank from count) = simp length-set
-length-ranks_after ranks (TakeNone rank from) = simp length-set
-length-ranks_after ranks (Pass rank colour) = simp length-set
-length-ranks_after ranks (Restart rank) = simp length-set
-length-ranks_after ranks (Conclude rank) = simp length-set
-length-ranks_after ranks (SeeOver rank) = simp length-set
+length-ranks_after ranks _ = simp length-set
 
 -- the picture after the event has the invariant
 abbrev LeavesInvariant : List RankState → Token → Event → Type 0
