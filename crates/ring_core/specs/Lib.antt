@@ -4,3 +4,4 @@ pub mod Invariant
 pub mod Picture
 pub mod Run
 pub mod Text
+pub mod Private

@@ -3,6 +3,7 @@ ghost use Rattle.std.specs.Prelude.{◌≡◌, ◌<◌, ◌||◌, ◌==◌, ◌�
 ghost use Rattle.std.specs.Result.{result_err};
 ghost use Rattle.ring_core.specs.declared.events.Event.TheVariants.{Handle, Ask, Give, Refuse, Take, TakeNone, Pass, Restart, Conclude, SeeOver};
 ghost use Rattle.ring_core.specs.World.{rank_of};
+ghost use Rattle.ring_core.specs.Private.{Takes};
 ghost use Rattle.ring_core.specs.Step.{is_none_of, no_pair_of, is_busy, is_rest, is_at, is_untried, first_reason, refused, after};
 
 use crate::events::{Event, Reason};
@@ -107,9 +108,7 @@ impl World {
 
     // The path that was handled does not matter.
     fn handle(&mut self, rank: u32, kids: u64) -> Result<(), Reason>
-        ensures reason { result_err result ≡ refused self.old (Handle rank [] kids) }
-        ensures ok { OnOk result (self.new ≡ after self.old (Handle rank [] kids)) }
-        ensures err { OnErr result (self.new ≡ self.old) }
+        ensures { Takes self.old (Handle rank [] kids) result self.new }
     {
         let me = self.acting(rank)?;
         if me.queued == 0 {
@@ -123,9 +122,7 @@ impl World {
     }
 
     fn ask(&mut self, rank: u32, victim: u32) -> Result<(), Reason>
-        ensures reason { result_err result ≡ refused self.old (Ask rank victim) }
-        ensures ok { OnOk result (self.new ≡ after self.old (Ask rank victim)) }
-        ensures err { OnErr result (self.new ≡ self.old) }
+        ensures { Takes self.old (Ask rank victim) result self.new }
     {
         if victim as usize >= self.ranks.len() || rank == victim {
             return Err(Reason::BadRank);
@@ -139,9 +136,7 @@ impl World {
     }
 
     fn give(&mut self, rank: u32, to: u32, count: u64) -> Result<(), Reason>
-        ensures reason { result_err result ≡ refused self.old (Give rank to count) }
-        ensures ok { OnOk result (self.new ≡ after self.old (Give rank to count)) }
-        ensures err { OnErr result (self.new ≡ self.old) }
+        ensures { Takes self.old (Give rank to count) result self.new }
     {
         let (me, asker) = self.acting_with(rank, to)?;
         if count == 0 || count >= me.queued {
@@ -163,9 +158,7 @@ impl World {
     }
 
     fn refuse(&mut self, rank: u32, to: u32) -> Result<(), Reason>
-        ensures reason { result_err result ≡ refused self.old (Refuse rank to) }
-        ensures ok { OnOk result (self.new ≡ after self.old (Refuse rank to)) }
-        ensures err { OnErr result (self.new ≡ self.old) }
+        ensures { Takes self.old (Refuse rank to) result self.new }
     {
         let (_, asker) = self.acting_with(rank, to)?;
         if asker.desk != Desk::Asked(rank) {
@@ -179,9 +172,7 @@ impl World {
     }
 
     fn take(&mut self, rank: u32, from: u32, count: u64) -> Result<(), Reason>
-        ensures reason { result_err result ≡ refused self.old (Take rank from count) }
-        ensures ok { OnOk result (self.new ≡ after self.old (Take rank from count)) }
-        ensures err { OnErr result (self.new ≡ self.old) }
+        ensures { Takes self.old (Take rank from count) result self.new }
     {
         let (me, _) = self.acting_with(rank, from)?;
         let Some(queued) = me.queued.checked_add(count) else {
@@ -198,9 +189,7 @@ impl World {
     }
 
     fn take_none(&mut self, rank: u32, from: u32) -> Result<(), Reason>
-        ensures reason { result_err result ≡ refused self.old (TakeNone rank from) }
-        ensures ok { OnOk result (self.new ≡ after self.old (TakeNone rank from)) }
-        ensures err { OnErr result (self.new ≡ self.old) }
+        ensures { Takes self.old (TakeNone rank from) result self.new }
     {
         let (me, _) = self.acting_with(rank, from)?;
         if me.desk != Desk::Empty(from) {
@@ -211,9 +200,7 @@ impl World {
     }
 
     fn pass(&mut self, rank: u32, colour: Colour) -> Result<(), Reason>
-        ensures reason { result_err result ≡ refused self.old (Pass rank colour) }
-        ensures ok { OnOk result (self.new ≡ after self.old (Pass rank colour)) }
-        ensures err { OnErr result (self.new ≡ self.old) }
+        ensures { Takes self.old (Pass rank colour) result self.new }
     {
         if rank == 0 {
             return Err(Reason::BadRank);
@@ -228,9 +215,7 @@ impl World {
     }
 
     fn restart(&mut self, rank: u32) -> Result<(), Reason>
-        ensures reason { result_err result ≡ refused self.old (Restart rank) }
-        ensures ok { OnOk result (self.new ≡ after self.old (Restart rank)) }
-        ensures err { OnErr result (self.new ≡ self.old) }
+        ensures { Takes self.old (Restart rank) result self.new }
     {
         if rank != 0 {
             return Err(Reason::BadRank);
@@ -245,9 +230,7 @@ impl World {
     }
 
     fn conclude(&mut self, rank: u32) -> Result<(), Reason>
-        ensures reason { result_err result ≡ refused self.old (Conclude rank) }
-        ensures ok { OnOk result (self.new ≡ after self.old (Conclude rank)) }
-        ensures err { OnErr result (self.new ≡ self.old) }
+        ensures { Takes self.old (Conclude rank) result self.new }
     {
         if rank != 0 {
             return Err(Reason::BadRank);
@@ -262,9 +245,7 @@ impl World {
     }
 
     fn see_over(&mut self, rank: u32) -> Result<(), Reason>
-        ensures reason { result_err result ≡ refused self.old (SeeOver rank) }
-        ensures ok { OnOk result (self.new ≡ after self.old (SeeOver rank)) }
-        ensures err { OnErr result (self.new ≡ self.old) }
+        ensures { Takes self.old (SeeOver rank) result self.new }
     {
         let me = self.acting(rank)?;
         if self.token != Token::Over {
