@@ -104,14 +104,7 @@ sane_after me see_over t (acts, over) sane =
 
 pub size_after : (me : ℕ) (d : Deed) (t : Told) → length (told_after me d t).places ≡ length t.places
 size_after me (ask v) t = simp length-set
-size_after me (give to b) t = simp length-set
-size_after me (refuse to) t = simp length-set
-size_after me (take from b) t = simp length-set
-size_after me (take_none from) t = simp length-set
-size_after me (pass c) t = simp length-set
-size_after me restart t = simp length-set
-size_after me conclude t = simp length-set
-size_after me see_over t = simp length-set
+size_after me _ t = simp length-set
 
 pub sound_after : (me : ℕ) (d : Deed) (t : Told) → Legal me d t → Sound t → Sound (told_after me d t)
 sound_after me d t legal sound = record {

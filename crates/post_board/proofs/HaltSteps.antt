@@ -1,10 +1,10 @@
 -- The steps on the halt word and the stops word, and withdrawing.
 use Rattle.post_board.proofs.Prelude.{◌≡◌, ℕ, ◌+◌, ◌^◌, ◌<◌, ◌≢◌, ◌⊎◌, inl, inr, ⊎_elim, refl, sym, subst, ap, ◌∙◌, Bool, true, false, cond, get_or, set}
 use Rattle.post_board.proofs.Prelude.{length-set, eqb, ◌==◌, bit_or, Some, eqb-true, either, step, Act, keeps, stepped, Valid, carried_after, Allows, exchanged}
-use Rattle.post_board.proofs.Prelude.{none, put, put_here, put_all, has_bit, Sign, resting, asking, serving, full, fetching, emptied, sign, word_of, Parcel}
+use Rattle.post_board.proofs.Prelude.{none, put, put_here, put_all, has_bit, Sign, resting, asking, serving, full, emptied, sign, word_of, Parcel}
 use Rattle.post_board.proofs.Prelude.{TableState, RingFacts, Rule, serves, signs_in, slots_in, token_in, halt_in, stops_in, OwnFits, OpenFits, asked_of, Going}
 use Rattle.post_board.proofs.Prelude.{SeatState, noted, knows, after_rest, after_look, learn, SetHaltTells, halt_seen, LoadHaltTells, StopTells, stop_seen}
-use Rattle.post_board.proofs.Prelude.{after_stops, LoadStopsTells, WithdrawTells, Known, View, OwnMailbox, Resting, Open, Left, Filled, Emptied, Getting}
+use Rattle.post_board.proofs.Prelude.{after_stops, LoadStopsTells, WithdrawTells, Known, View, OwnMailbox, Resting, Open, Left}
 use Rattle.post_board.proofs.Prelude.{put_same}
 use Rattle.post_board.proofs.BitLemmas.{bit_set, bit_else}
 use Rattle.post_board.proofs.WordLemmas.{sign_of_word}
@@ -129,36 +129,25 @@ open_still true v d h = h
 open_still false v d h = h
 
 stop_fits : (o : OwnMailbox) (found : ℕ) (d : Sign) → OwnFits o d → OwnFits (stop_seen o found) d
-stop_fits Resting found d h = h
 stop_fits (Open v) found d h = open_still (has_bit found v) v d h
-stop_fits (Left v) found d h = h
-stop_fits (Filled v) found d h = h
-stop_fits (Emptied v) found d h = h
-stop_fits (Getting v) found d h = h
+stop_fits _ found d h = h
 
 same_asked : (b : Bool) (v : ℕ) → asked_of (cond b (Left v) (Open v)) ≡ Some v
 same_asked true v = refl
 same_asked false v = refl
 
 stop_asked : (o : OwnMailbox) (found : ℕ) → asked_of (stop_seen o found) ≡ asked_of o
-stop_asked Resting found = refl
 stop_asked (Open v) found = same_asked (has_bit found v) v
-stop_asked (Left v) found = refl
-stop_asked (Filled v) found = refl
-stop_asked (Emptied v) found = refl
-stop_asked (Getting v) found = refl
+stop_asked _ found = refl
 
 left_by : (b : Bool) (v u : ℕ) → cond b (Left v) (Open v) ≡ Left u → (v ≡ u) × (b ≡ true)
 left_by true v u e = ((let same : v ≡ u = cc in same), refl)
 left_by false v u e = absurd (cc)
 
 stop_left : (o : OwnMailbox) (found u : ℕ) → stop_seen o found ≡ Left u → (o ≡ Left u) ⊎ ((o ≡ Open u) × (has_bit found u ≡ true))
-stop_left Resting found u e = absurd (cc)
 stop_left (Open v) found u e = let p = left_by (has_bit found v) v u e in inr (ap Open p.0, ap (has_bit found) (sym p.0) ∙ p.1)
 stop_left (Left v) found u e = inl e
-stop_left (Filled v) found u e = absurd (cc)
-stop_left (Emptied v) found u e = absurd (cc)
-stop_left (Getting v) found u e = absurd (cc)
+stop_left _ found u e = absurd (cc)
 
 pub allows_load_stops : (n slots id : ℕ) (m : SeatState) → Going m → Allows (Rule n) slots id m (n + 2) (λ r. r)
     (LoadStopsTells (step slots (n + 2) 0 0 none) m)
@@ -190,11 +179,7 @@ Goes n s i id m then x = (w : View) × (a : Act Parcel) × Valid s.homes m.1 a �
 
 pub learn_left : (o : OwnMailbox) (d : Sign) (v u : ℕ) → o ≡ Left v → learn o d ≡ Left u → v ≡ u
 learn_left o resting v u e f = cc
-learn_left o (asking i) v u e f = cc
-learn_left o (serving i) v u e f = cc
-learn_left o (full i) v u e f = cc
-learn_left o (fetching i) v u e f = cc
-learn_left o (emptied i) v u e f = cc
+learn_left o _ v u e f = cc
 
 pub allows_withdraw : (n slots id r v : ℕ) (m : SeatState) → Going m → m.0.own.number ≡ r
     → m.0.own.own ≡ Left v

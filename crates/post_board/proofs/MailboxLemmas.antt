@@ -3,7 +3,7 @@ use Rattle.post_board.proofs.Prelude.{◌≡◌, ℕ, ◌/◌, ◌%◌, ◌==◌
 use Rattle.post_board.proofs.Prelude.{◌∷◌, ◌++◌, length, get_or, set, get_or-set_same, get_or-set_other, length-set, eq-eqb, ne_eqb, Some, None, append-nil}
 use Rattle.post_board.proofs.Prelude.{none, some, dite, ℕ_discrete, put, put_here, put_elsewhere, put_same, Strings, Sign, resting, asking, serving, full}
 use Rattle.post_board.proofs.Prelude.{fetching, emptied, sign_by, word_of, Parcel, MailboxFacts, serves, given, taken, OpenFits, OwnFits, SlotFits, Away}
-use Rattle.post_board.proofs.Prelude.{asked_of, on_way, learn, Known, OwnMailbox, Resting, Open, Left, Filled, Emptied, Getting}
+use Rattle.post_board.proofs.Prelude.{asked_of, on_way, learn, Known, OwnMailbox, Resting, Open, Left, Getting}
 use mathlib.Core.Option as Core
 use Rattle.post_board.specs.Words.{sign}
 use Rattle.post_board.proofs.Puts.{put_self}
@@ -35,28 +35,16 @@ one_word w v h = let p = by_kind (w % 8) (w / 8) v h in let a : w % 8 ≡ 1 = p.
 
 bare : (d : Sign) (i : ℕ) → on_way d i (some None) ≡ []
 bare resting i = refl
-bare (asking k) i = refl
-bare (serving k) i = refl
-bare (full k) i = refl
-bare (fetching k) i = refl
-bare (emptied k) i = refl
+bare _ i = refl
 
 empty_handed : (d : Sign) (i : ℕ) → on_way d i none ≡ []
 empty_handed resting i = refl
-empty_handed (asking k) i = refl
-empty_handed (serving k) i = refl
-empty_handed (full k) i = refl
-empty_handed (fetching k) i = refl
-empty_handed (emptied k) i = refl
+empty_handed _ i = refl
 
 -- no batch is on the way in a mailbox that is not full
 pub not_full : (d : Sign) (i : ℕ) (z : Core.Option Parcel) → ((k : ℕ) → d ≢ full k) → on_way d i z ≡ []
-not_full resting i z ne = refl
-not_full (asking k) i z ne = refl
-not_full (serving k) i z ne = refl
 not_full (full k) i z ne = absurd (ne k refl)
-not_full (fetching k) i z ne = refl
-not_full (emptied k) i z ne = refl
+not_full _ i z ne = refl
 
 -- the rank that a sign names
 abbrev pub name : Sign → ℕ
@@ -78,21 +66,16 @@ named : (o : OwnMailbox) (d : Sign) (i : ℕ) → OwnFits o d → OpenFits i d �
 named Resting d i e q = absurd (open_never_rests i d q e)
 named (Open v) d i e q = ap Some (sym (open_name v d e) ∙ open_name i d q)
 named (Left v) d i e q = ap Some (sym (open_name v d e) ∙ open_name i d q)
-named (Filled v) d i e q = ap Some (sym (ap name e) ∙ open_name i d q)
-named (Emptied v) d i e q = ap Some (sym (ap name e) ∙ open_name i d q)
-named (Getting v) d i e q = ap Some (sym (ap name e) ∙ open_name i d q)
+named _ d i e q = ap Some (sym (ap name e) ∙ open_name i d q)
 
 open_rank : (v i : ℕ) (d : Sign) → OpenFits v d → (d ≡ asking i) ⊎ (d ≡ serving i) → v ≡ i
 open_rank v i d e q = sym (open_name v d e) ∙ ⊎_elim (λ a. ap name a) (λ a. ap name a) q
 
 -- an own mailbox that asks i, or that i serves, is one whose request to i is open
 open_is : (o : OwnMailbox) (i : ℕ) (d : Sign) → (d ≡ asking i) ⊎ (d ≡ serving i) → OwnFits o d → (o ≡ Open i) ⊎ (o ≡ Left i)
-open_is Resting i d q e = absurd (⊎_elim (λ a. cc) (λ a. cc) q)
 open_is (Open v) i d q e = inl (ap Open (open_rank v i d e q))
 open_is (Left v) i d q e = inr (ap Left (open_rank v i d e q))
-open_is (Filled v) i d q e = absurd (⊎_elim (λ a. cc) (λ a. cc) q)
-open_is (Emptied v) i d q e = absurd (⊎_elim (λ a. cc) (λ a. cc) q)
-open_is (Getting v) i d q e = absurd (⊎_elim (λ a. cc) (λ a. cc) q)
+open_is _ i d q e = absurd (⊎_elim (λ a. cc) (λ a. cc) q)
 
 -- so i can take it up, fill it or refuse it
 stays_open : (o : OwnMailbox) (i : ℕ) (d d' : Sign) → (d ≡ asking i) ⊎ (d ≡ serving i) → OwnFits o d → OpenFits i d' → OwnFits o d'
@@ -113,21 +96,15 @@ refused_own : (o : OwnMailbox) (i : ℕ) → OwnFits o (serving i) → OwnFits o
 refused_own o i e = stays_open o i (serving i) (emptied i) (inr refl) e (inr (inr (inr refl)))
 
 pub learns : (o : OwnMailbox) (d : Sign) → OwnFits o d → OwnFits (learn o d) d
-learns o resting fits = fits
-learns o (asking i) fits = fits
-learns o (serving i) fits = fits
 learns o (full i) fits = refl
-learns o (fetching i) fits = fits
 learns o (emptied i) fits = refl
+learns o _ fits = fits
 
 -- what is learnt names the same rank
 pub learns_away : (o : OwnMailbox) (d : Sign) → OwnFits o d → (v : ℕ) → asked_of (learn o d) ≡ Some v → asked_of o ≡ Some v
-learns_away o resting fits v e = e
-learns_away o (asking i) fits v e = e
-learns_away o (serving i) fits v e = e
 learns_away o (full i) fits v e = named o (full i) i fits (inr (inr (inl refl))) ∙ e
-learns_away o (fetching i) fits v e = e
 learns_away o (emptied i) fits v e = named o (emptied i) i fits (inr (inr (inr refl))) ∙ e
+learns_away o _ fits v e = e
 
 module _ (n : ℕ) (known : ℕ → Known) (signs : ℕ → Sign) (slot : ℕ → Core.Option Parcel) (F : MailboxFacts n known signs slot) (id : ℕ) (me : id < n) where
   -- no rank serves itself

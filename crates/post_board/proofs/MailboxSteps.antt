@@ -66,12 +66,9 @@ allows_look n slots id r m G mine stays s o wide here small =
     )
   where
     not_left : (o : OwnMailbox) (d : Sign) (u : ℕ) → learn o d ≡ Left u → o ≡ Left u
-    not_left o resting u e = e
-    not_left o (asking i) u e = e
-    not_left o (serving i) u e = e
     not_left o (full i) u e = cc
-    not_left o (fetching i) u e = e
     not_left o (emptied i) u e = cc
+    not_left o _ u e = e
 
 -- one compare_exchange at the mailbox of r, from asking this rank to being served by it
 pub allows_take : (n slots id r me : ℕ) (m : SeatState) → Going m → m.0.own.number ≡ me → r < m.0.own.n → r ≢ me

@@ -2,8 +2,8 @@
 use Rattle.post_board.proofs.Prelude.{◌≡◌, ℕ, ◌<◌, ◌≢◌, ◌⊎◌, ⊎_elim, inr, refl, sym, subst, ap, ◌∙◌, arith, Bool, true, false, List, length, map, set, get_or}
 use Rattle.post_board.proofs.Prelude.{get_or-set_same, get_or-set_other, length-set, Option, Some, None, Contains, length-map, get_or_default, get_or_past}
 use Rattle.post_board.proofs.Prelude.{Contains-get_or, Contains-permutation, length_permutation, dite, ℕ_discrete, dec_lt, Token, Over, is_filled}
-use Rattle.post_board.proofs.Prelude.{PictureInvariant, Mail, vacant, asked, empty, mailbox, Place, Told, no_place, place, picture, is_full, Deed, ask, give}
-use Rattle.post_board.proofs.Prelude.{refuse, take, take_none, pass, restart, conclude, see_over, Legal, told_after, AllDone, Halters, NoneOnTheWay, place_of}
+use Rattle.post_board.proofs.Prelude.{PictureInvariant, Mail, asked, mailbox, Place, Told, no_place, place, picture, is_full, Deed, ask}
+use Rattle.post_board.proofs.Prelude.{Legal, told_after, AllDone, Halters, NoneOnTheWay, place_of}
 use Rattle.post_board.proofs.Prelude.{told_of, told_by, worded, is_some, no_rank, plain, shown_by, Gone, HaltFits, IsSeat, Noted, PlainBoard, PlainMailbox}
 use Rattle.post_board.proofs.Prelude.{Rest, Served, PlainRank, PlainSeat, spare, numbered, false_from_ne_true}
 use Rattle.post_board.specs.Told.{full}
@@ -14,27 +14,13 @@ use Rattle.post_board.proofs.PlainDeeds.{inside}
 -- no deed that is an event looks at the words of the halt and the stops
 legal_worded : (me : ℕ) (d : Deed) (t : Told) (halter : Option ℕ) (stops : List Bool) → Legal me d t → Legal me d (worded halter stops t)
 legal_worded me (ask v) t halter stops l = l
-legal_worded me (give to b) t halter stops l = l
-legal_worded me (refuse to) t halter stops l = l
-legal_worded me (take from b) t halter stops l = l
-legal_worded me (take_none from) t halter stops l = l
-legal_worded me (pass c) t halter stops l = l
-legal_worded me restart t halter stops l = l
-legal_worded me conclude t halter stops l = l
-legal_worded me see_over t halter stops l = l
+legal_worded me _ t halter stops l = l
 
 -- nor changes them
 after_worded : (me : ℕ) (d : Deed) (t : Told) (halter : Option ℕ) (stops : List Bool)
     → worded halter stops (told_after me d t) ≡ told_after me d (worded halter stops t)
 after_worded me (ask v) t halter stops = refl
-after_worded me (give to b) t halter stops = refl
-after_worded me (refuse to) t halter stops = refl
-after_worded me (take from b) t halter stops = refl
-after_worded me (take_none from) t halter stops = refl
-after_worded me (pass c) t halter stops = refl
-after_worded me restart t halter stops = refl
-after_worded me conclude t halter stops = refl
-after_worded me see_over t halter stops = refl
+after_worded me _ t halter stops = refl
 
 -- a seat knows of the words what it knew
 abbrev pub SameWords : PlainSeat → PlainSeat → Type 0
@@ -113,10 +99,8 @@ done_by {me} {d} {halter} {stops} {ranks} {ranks'} {masks} {masks'} {token} {tok
 }
 
 full_box : (m : Mail) → is_full m ≡ true → is_filled (mailbox m) ≡ true
-full_box vacant e = cc
-full_box (asked r) e = cc
 full_box (full r b) e = refl
-full_box (empty r) e = cc
+full_box _ e = cc
 
 some_is : (a : Option ℕ) → is_some a ≡ true → (r : ℕ) × (a ≡ Some r)
 some_is None e = cc

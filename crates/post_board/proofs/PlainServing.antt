@@ -169,11 +169,8 @@ give_deed ranks token s s' c x y to b ex ec ey seat live serves busy same =
     }
 
 pub wants_is : (d : PlainMailbox) (r : ℕ) → wants d r ≡ true → d ≡ Wants r
-wants_is Rest r e = cc
 wants_is (Wants k) r e = ap Wants (grind (arith, nat_tests))
-wants_is (Served k) r e = cc
-wants_is (Holds k b) r e = cc
-wants_is (Refused k) r e = cc
+wants_is _ r e = cc
 
 -- taking up a request changes nothing that is told
 pub take_up_deed : (ranks : List PlainRank) (token : Token) (s s' : PlainSeat) (y : PlainRank) (to : ℕ) → y ≡ plain ranks to
@@ -214,8 +211,6 @@ asked_same : (k me : ℕ) → asked k ≡ asked me → k ≡ me
 asked_same k me e = cc
 
 pub serving_mail : (d : PlainMailbox) (me : ℕ) → mail_of d ≡ asked me → wants d me ≡ false → d ≡ Served me
-serving_mail Rest me t w = cc
 serving_mail (Wants k) me t w = (let e : k ≡ me = asked_same k me t in absurd (grind (arith, nat_tests)))
 serving_mail (Served k) me t w = ap Served (asked_same k me t)
-serving_mail (Holds k b) me t w = cc
-serving_mail (Refused k) me t w = cc
+serving_mail _ me t w = cc
