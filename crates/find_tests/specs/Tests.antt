@@ -27,9 +27,8 @@ is_aged bound unit now (Some mtime) = is_within bound (age unit now mtime)
 
 -- the first time is above the second, and both are there
 abbrev pub is_newer : Option ℕ → Option ℕ → Bool
-is_newer None than = false
-is_newer (Some mtime) None = false
 is_newer (Some mtime) (Some than) = nat_lt than mtime
+is_newer _ _ = false
 
 -- whether a test holds of a path and its stat
 abbrev pub holds : Test → List ℕ → Stat → ℕ → Bool
@@ -77,7 +76,4 @@ test_reading name.Minutes value = test_by test.Minutes (bound_reading false valu
 abbrev pub has_glob : TestName → Bool
 has_glob name.Name = true
 has_glob name.Path = true
-has_glob name.Kind = false
-has_glob name.Size = false
-has_glob name.Days = false
-has_glob name.Minutes = false
+has_glob _ = false

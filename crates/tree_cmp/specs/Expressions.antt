@@ -20,18 +20,16 @@ use Rattle.tree_cmp.specs.declared.conditions.Condition.TheVariants as condition
 
 abbrev pub only_src : Exist → Bool
 only_src exist.OnlySrc = true
-only_src exist.OnlyDest = false
-only_src exist.Common = false
-
-abbrev pub only_dest : Exist → Bool
-only_dest exist.OnlySrc = false
-only_dest exist.OnlyDest = true
-only_dest exist.Common = false
+only_src _ = false
 
 abbrev pub on_both : Exist → Bool
 on_both exist.OnlySrc = false
 on_both exist.OnlyDest = false
 on_both exist.Common = true
+
+abbrev pub only_dest : Exist → Bool
+only_dest exist.OnlyDest = true
+only_dest _ = false
 
 abbrev pub value_of : Aspect → Row → Two
 value_of aspect.Kind row = row.kind
@@ -41,13 +39,11 @@ value_of aspect.Content row = row.content
 -- a field without a value neither agrees nor differs
 abbrev pub agrees : Two → Bool
 agrees two.Common = true
-agrees two.Differ = false
-agrees two.NoValue = false
+agrees _ = false
 
 abbrev pub differs : Two → Bool
-differs two.Common = false
 differs two.Differ = true
-differs two.NoValue = false
+differs _ = false
 
 abbrev pub meets : Row → Condition → Bool
 meets row condition.OnlySrc = only_src row.exist

@@ -26,19 +26,14 @@ pub record IsSide (s : Side) : Type 0 where
 
 -- nothing is there
 abbrev pub is_gone : Mark → Bool
-is_gone mark.Fine = false
-is_gone mark.StatFailed = false
-is_gone mark.ListFailed = false
 is_gone mark.Gone = true
-is_gone mark.Changed = false
+is_gone _ = false
 
 -- its children were not listed
 abbrev pub is_closed : Mark → Bool
 is_closed mark.Fine = false
-is_closed mark.StatFailed = true
-is_closed mark.ListFailed = true
 is_closed mark.Gone = false
-is_closed mark.Changed = true
+is_closed _ = true
 
 -- not all of its children are known
 abbrev pub is_partial : Entry → Bool

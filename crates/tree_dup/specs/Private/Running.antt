@@ -48,44 +48,18 @@ pub record IsLastRun (files : List File) (start : ℕ) : Type 0 where
 
 abbrev pub standing_alike : Standing → Bool
 standing_alike s.Alike = true
-standing_alike s.Other = false
-standing_alike (s.Missed why) = false
-
-abbrev pub standing_other : Standing → Bool
-standing_other s.Alike = false
-standing_other s.Other = true
-standing_other (s.Missed why) = false
-
-abbrev pub standing_failed : Standing → Bool
-standing_failed s.Alike = false
-standing_failed s.Other = false
-standing_failed (s.Missed m.Failed) = true
-standing_failed (s.Missed m.Changed) = false
-
-abbrev pub standing_changed : Standing → Bool
-standing_changed s.Alike = false
-standing_changed s.Other = false
-standing_changed (s.Missed m.Failed) = false
-standing_changed (s.Missed m.Changed) = true
+standing_alike _ = false
 
 abbrev pub is_alike : File → Bool
 is_alike f = standing_alike f.standing
-
-abbrev pub is_other : File → Bool
-is_other f = standing_other f.standing
-
-abbrev pub is_failed : File → Bool
-is_failed f = standing_failed f.standing
-
-abbrev pub is_changed : File → Bool
-is_changed f = standing_changed f.standing
 
 -- a file as it is before its run is read
 abbrev pub still : File → File
 still f = record f { standing = s.Alike }
 
-abbrev pub paths_of : List File → List (List ℕ)
-paths_of files = map (λ f. f.path) files
+abbrev pub standing_failed : Standing → Bool
+standing_failed (s.Missed m.Failed) = true
+standing_failed _ = false
 
 -- how many faults a standing was counted for
 abbrev pub failures_of : Standing → ℕ
@@ -94,11 +68,30 @@ failures_of standing = if standing_failed standing then 1 else 0
 abbrev pub failures : List File → ℕ
 failures files = sum_by (λ f. failures_of f.standing) files
 
+abbrev pub is_failed : File → Bool
+is_failed f = standing_failed f.standing
+
+abbrev pub standing_other : Standing → Bool
+standing_other s.Other = true
+standing_other _ = false
+
+abbrev pub standing_changed : Standing → Bool
+standing_changed (s.Missed m.Changed) = true
+standing_changed _ = false
+
+abbrev pub is_other : File → Bool
+is_other f = standing_other f.standing
+
+abbrev pub is_changed : File → Bool
+is_changed f = standing_changed f.standing
+
+abbrev pub paths_of : List File → List (List ℕ)
+paths_of files = map (λ f. f.path) files
+
 -- a file that was missed was asked for, and answered so
 abbrev pub StandingShows : {S : Type 0} → Asks S → List ℕ → Standing → Type 0
-StandingShows gives path s.Alike = Unit {0}
-StandingShows gives path s.Other = Unit {0}
 StandingShows gives path (s.Missed why) = ShowsMissing gives path why
+StandingShows gives path _ = Unit {0}
 
 abbrev pub Shows : {S : Type 0} → Asks S → File → Type 0
 Shows gives f = StandingShows gives f.path f.standing
