@@ -3,6 +3,7 @@ ghost use Rattle.std.specs.Prelude.{◌≡◌};
 ghost use Rattle.tree_dup.specs.Private.Running.{content_cmp, is_alike, same_content};
 
 use path_text::Path;
+use std::alloc::Global;
 use std::cmp::Ordering;
 use tree_cmp::Missing;
 
@@ -31,6 +32,13 @@ pub(crate) struct File {
 pub(crate) struct Comparison {
     pub(crate) digest: [u8; 32],
     pub(crate) standings: Vec<Standing>,
+}
+
+// Files in order by their content, whose runs are to be compared. A run's place is that of its first file.
+#[derive(Drop)]
+pub(crate) struct Runs<'a> {
+    pub(crate) alloc: Global,
+    pub(crate) files: &'a [File],
 }
 
 // Files by their size and then their hash.

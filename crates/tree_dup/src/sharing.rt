@@ -7,28 +7,21 @@ ghost use Rattle.tree_dup.specs.declared.runs.Standing.{Standing};
 ghost use Rattle.tree_dup.specs.Private.Running.{AreStandings, comparison_faults, standing_of, still};
 
 use crate::comparing::compare_run;
-use crate::runs::{Comparison, File, Standing, same_content};
+use crate::runs::{Comparison, File, Runs, Standing, same_content};
 use outside::Tree;
 use path_text::OutOfMemory;
 use shared_reads::{Desk, Job, Reading};
 use std::alloc::Global;
 
-// Files in order by their content, whose runs are to be compared. A run's place is that of its first file.
-#[derive(Drop)]
-pub(crate) struct Runs<'a> {
-    pub(crate) alloc: Global,
-    pub(crate) files: &'a [File],
-}
-
 impl<'a, R: Tree> Job<R, Comparison> for Runs<'a> {
     ghost use Rattle.std.specs.Prelude.{length};
     ghost use Rattle.tree_dup.specs.Private.Running.{StandFrom, comparison_faults};
 
-    ghost places = { λ job. length job.files.now };
+    ghost faults = { comparison_faults };
 
     ghost told = { λ job tree place c. StandFrom tree R.gives job.files.now place c };
 
-    ghost faults = { comparison_faults };
+    ghost places = { λ job. length job.files.now };
 
     fn len(&self) -> usize {
         self.files.len()
