@@ -47,6 +47,13 @@ impl Compared {
         })
     }
 
+    /// The files whose reads failed, in the order of the rows.
+    pub fn failed(&self) -> &[Missed]
+        ensures { result.now ≡ self.now.failed }
+    {
+        &self.failed
+    }
+
     /// How many rows there are.
     pub fn len(&self) -> usize
         ensures { result ≡ length self.now.rows }
@@ -54,11 +61,11 @@ impl Compared {
         self.rows.len()
     }
 
-    /// Whether there are no rows.
-    pub fn is_empty(&self) -> bool
-        ensures { result ≡ (length self.now.rows == 0) }
+    /// The files of which a read found fewer bytes than their stat gives, or no file, in the order of the rows.
+    pub fn changed(&self) -> &[Missed]
+        ensures { result.now ≡ self.now.changed }
     {
-        self.rows.is_empty()
+        &self.changed
     }
 
     /// The row at a place, in path order.
@@ -69,18 +76,11 @@ impl Compared {
         &self.rows[k]
     }
 
-    /// The files whose reads failed, in the order of the rows.
-    pub fn failed(&self) -> &[Missed]
-        ensures { result.now ≡ self.now.failed }
+    /// Whether there are no rows.
+    pub fn is_empty(&self) -> bool
+        ensures { result ≡ (length self.now.rows == 0) }
     {
-        &self.failed
-    }
-
-    /// The files of which a read found fewer bytes than their stat gives, or no file, in the order of the rows.
-    pub fn changed(&self) -> &[Missed]
-        ensures { result.now ≡ self.now.changed }
-    {
-        &self.changed
+        self.rows.is_empty()
     }
 }
 

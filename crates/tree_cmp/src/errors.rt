@@ -11,16 +11,9 @@ pub enum CmpError {
     OutOfMemory,
 }
 
-impl NoMemory for CmpError {}
-
-impl From<OutOfMemory> for CmpError {
-    fn from(_: OutOfMemory) -> Self {
-        CmpError::OutOfMemory
-    }
-}
-
-impl From<AllocError> for CmpError {
-    fn from(_: AllocError) -> Self {
+/// A path that is joined again to its own top is not too long, so the one cause is that memory runs out.
+impl From<JoinError> for CmpError {
+    fn from(_: JoinError) -> Self {
         CmpError::OutOfMemory
     }
 }
@@ -31,9 +24,16 @@ impl<T: Drop> From<AllocFailed<T>> for CmpError {
     }
 }
 
-/// A path that is joined again to its own top is not too long, so the one cause is that memory runs out.
-impl From<JoinError> for CmpError {
-    fn from(_: JoinError) -> Self {
+impl NoMemory for CmpError {}
+
+impl From<OutOfMemory> for CmpError {
+    fn from(_: OutOfMemory) -> Self {
+        CmpError::OutOfMemory
+    }
+}
+
+impl From<AllocError> for CmpError {
+    fn from(_: AllocError) -> Self {
         CmpError::OutOfMemory
     }
 }
