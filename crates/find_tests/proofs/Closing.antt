@@ -10,9 +10,8 @@ none_behind s rest e = by_test (is_sign 93 s) e
     by_test false e = e
 
 none_later : (signs : List Sign) → has_close (drop 1 signs) ≡ false → has_close (drop 2 signs) ≡ false
-none_later [] e = refl
-none_later (s ∷ []) e = refl
 none_later (s ∷ t ∷ rest) e = none_behind t rest e
+none_later _ e = refl
 
 -- no bracket that begins before them is closed
 none_closed : (signs : List Sign) → has_close (drop 1 signs) ≡ false → is_closed (behind_negation signs) ≡ false
