@@ -39,9 +39,8 @@ all_deeper starts left h q w = let a = above q left w in deeper starts q a.path 
 -- ---- the paths that a walk goes on with
 
 kids_same : (answer : Answer) (old new : Files) (p : List ℕ) → get new p ≡ get old p → SameAt p old new → children_of answer new p ≡ children_of answer old p
-kids_same stat_failed old new p e same = refl
-kids_same list_failed old new p e same = refl
 kids_same (told unnamed) old new p e same = λ i. cond (is_dir (e i)) (map (joined p) (names_same p old new same i)) []
+kids_same _ old new p e same = refl
 
 kids_alike : (starts : List (List ℕ)) (old new : Files) → SameBelow starts old new → (answer : Answer) (p : List ℕ) → Within starts p →
     children_of answer new p ≡ children_of answer old p

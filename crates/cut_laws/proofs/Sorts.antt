@@ -102,9 +102,8 @@ abbrev order_in : List Entry → Field → Bool → List ℕ → List ℕ → Or
 order_in list field down = on (entry_at list) (sort_order field down)
 
 tie : (a b : Ordering) → ordering_then a b ≡ Equal → b ≡ Equal
-tie Less b e = cc
 tie Equal b e = e
-tie Greater b e = cc
+tie _ b e = cc
 
 is_order : (list : List Entry) (field : Field) (down : Bool) → IsOrder (order_in list field down)
 is_order list field down = record {
