@@ -47,10 +47,8 @@ stat_told files s told p e h =
 -- ---- files as they were told
 
 file_body : (b : Body) → is_kind kind.File (kind_of b) ≡ true → (is_file_body b ≡ true) × (length (bytes_of b) ≡ size_of b)
-file_body (Body.dir far) e = absurd (false≢true e)
 file_body (Body.file bytes) e = (refl, refl)
-file_body (Body.link text) e = absurd (false≢true e)
-file_body Body.other e = absurd (false≢true e)
+file_body _ e = absurd (false≢true e)
 
 pub file_of : (node : Option Node) (s : Stat) → option_map stat_of node ≡ Some s → is_kind kind.File s.kind ≡ true → IsFileOf node s.size
 file_of None s e h = absurd cc
@@ -108,9 +106,8 @@ file_at law files s is told p e at stat has file =
 -- ---- a row
 
 abbrev pub gave_nothing : Option Outcome → Bool
-gave_nothing None = false
-gave_nothing (Some (outcome.Same same)) = false
 gave_nothing (Some (outcome.Missed dest why)) = true
+gave_nothing _ = false
 
 value_of_two : (b : Bool) → has_value (two_of b) ≡ true
 value_of_two true = refl
@@ -167,24 +164,18 @@ side_is missing.Changed (Some (outcome.Missed d missing.Changed)) dest e = let s
 
 pub not_both_missed : (f : Bool → Missed) (o : Option Outcome) (m : Missed) → option_map f (side_missed missing.Failed o) ≡ Some m
     → is_some (option_map f (side_missed missing.Changed o)) ≡ false
-not_both_missed f None m e = refl
-not_both_missed f (Some (outcome.Same x)) m e = refl
-not_both_missed f (Some (outcome.Missed d missing.Failed)) m e = refl
 not_both_missed f (Some (outcome.Missed d missing.Changed)) m e = absurd cc
+not_both_missed f _ m e = refl
 
 pub one_or_other : (f : Bool → Missed) (o : Option Outcome)
     → (is_some (option_map f (side_missed missing.Failed o)) || is_some (option_map f (side_missed missing.Changed o))) ≡ gave_nothing o
-one_or_other f None = refl
-one_or_other f (Some (outcome.Same x)) = refl
-one_or_other f (Some (outcome.Missed d missing.Failed)) = refl
 one_or_other f (Some (outcome.Missed d missing.Changed)) = refl
+one_or_other f _ = refl
 
 one_failed : (f : Bool → Missed) (o : Option Outcome) (rest : List Missed)
     → length (cons_option (option_map f (side_missed missing.Failed o)) rest) ≡ some_counts o + length rest
-one_failed f None rest = omega arith
-one_failed f (Some (outcome.Same x)) rest = omega arith
-one_failed f (Some (outcome.Missed d missing.Failed)) rest = omega arith
 one_failed f (Some (outcome.Missed d missing.Changed)) rest = omega arith
+one_failed f _ rest = omega arith
 
 -- as many reads failed as faults were told
 pub failed_count : (left right : List ℕ) (drafts : List Draft) → length (filter_map (missed_by missing.Failed left right) drafts) ≡ blames drafts

@@ -154,11 +154,7 @@ module _ (order : IsPreorder) (contiguous : UnderIsContiguous) (links : List ℕ
 
   -- where the path lies under one whose children are not all known, it has no row
   pub skips : under_some p h ≡ true → (rest : List Draft) → From links h l' r' rest → From links h l r rest
-  skips u rest f = record {
-    ascend = f.ascend;
-    shown = λ q. f.shown q ∙ sym (skipped q);
-    each = each_later rest (rows_behind h rest f) f.each;
-  }
+  skips u rest f = record { ascend = f.ascend; shown = λ q. f.shown q ∙ sym (skipped q); each = each_later rest (rows_behind h rest f) f.each }
     where
       skipped : (q : List ℕ) → shown_from h q l r ≡ shown_from h q l' r'
       skipped q = elim (pointwise eqb p q) as (λ s. pointwise eqb p q ≡ s → shown_from h q l r ≡ shown_from h q l' r') [
