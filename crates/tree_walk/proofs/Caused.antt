@@ -21,10 +21,8 @@ first false e = absurd (false≢true e)
 
 -- no directory is a link
 apart : (k : Kind) → (is_kind kind.Dir k && true) ≡ true → (is_kind kind.Link k && true) ≡ true → ⊥
-apart kind.File d l = false≢true d
 apart kind.Dir d l = false≢true l
-apart kind.Link d l = false≢true d
-apart kind.Other d l = false≢true d
+apart _ d l = false≢true d
 
 pub by_stat_alone : {S : Type 0} (gives : Asks S) (before after : S) (path : List ℕ) (answer : Result (Option Stat) Failed) →
     gives before (asked.stat path answer) after → is_linked (by_stat path answer) ≡ false → IsAnswered gives (by_stat path answer)

@@ -82,8 +82,7 @@ under_up q p top up over =
 -- the children of a directory of which the files answered
 children_told : (answer : Answer) (files : Files) (p : List ℕ) → is_told answer ≡ true → children_of answer files p ≡ children_of (told 0) files p
 children_told (told u) files p e = refl
-children_told stat_failed files p e = absurd (false≢true e)
-children_told list_failed files p e = absurd (false≢true e)
+children_told _ files p e = absurd (false≢true e)
 
 module _ (files : Files) (a : Answers) (t : IsTree files) where
   abbrev kids : List ℕ → List (List ℕ)

@@ -26,9 +26,7 @@ IsKid answer found p c = (parent_of c ≡ p) × (is_of kind.Dir (entry_of answer
 
 dir_kind : (b : Body) → is_dir_body b ≡ true → is_kind kind.Dir (kind_of b) ≡ true
 dir_kind (dir far) d = refl
-dir_kind (file bytes) d = absurd (false≢true d)
-dir_kind (link text) d = absurd (false≢true d)
-dir_kind other d = absurd (false≢true d)
+dir_kind _ d = absurd (false≢true d)
 
 dir_told : (u : ℕ) (found : Option Node) (p : List ℕ) → is_dir found ≡ true → is_of kind.Dir (entry_of (told u) found p).stat ≡ true
 dir_told u None p d = absurd (false≢true d)
@@ -40,8 +38,6 @@ kids_of u found p v d [] h = tt
 kids_of u found p v d (n ∷ names) h = ((parent_joined p n v (no_slash n h.0), dir_told u found p d), kids_of u found p v d names h.1)
 
 kids : (files : Files) (answer : Answer) (p : List ℕ) → IsTree files → AllByRecursion (IsKid answer (get files p) p) (children_of answer files p)
-kids files stat_failed p t = tt
-kids files list_failed p t = tt
 kids files (told u) p t =
     let names = names_in files p in
     let valid = recursion_from_All (λ n. IsTrue (is_name n)) names (children_are_names files p t).valid in
@@ -49,6 +45,7 @@ kids files (told u) p t =
       | true ↦ λ d. kids_of u (get files p) p (placed_path files p t (not_none (get files p) (dir_is_there (get files p) d))) d names valid
       | false ↦ λ _. tt
     ] refl
+kids files _ p t = tt
 
 -- the entry is that of the top, or its directory has one
 abbrev Comes : List Entry → List ℕ → Entry → Type 0

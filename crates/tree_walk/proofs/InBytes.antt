@@ -44,9 +44,8 @@ by_front x p l =
     ] refl
 
 two : (p : List ℕ) → refusal p ≡ None → (length p == 1) ≡ false → 2 ≤ length p
-two [] r e = cc
-two (a ∷ []) r e = cc
 two (a ∷ b ∷ p) r e = omega arith
+two _ r e = cc
 
 not_one : (n : ℕ) → (n ≡ 1 → ⊥) → (n == 1) ≡ false
 not_one n h = grind (arith, nat_tests)

@@ -210,8 +210,7 @@ walks_find_all files (root ∷ roots) t h =
 
 pub none_failed : (answer : Answer) → weight answer ≡ 0 → answer ≡ told 0
 none_failed (told unnamed) h = ap told h
-none_failed stat_failed h = absurd (omega arith)
-none_failed list_failed h = absurd (omega arith)
+none_failed _ h = absurd (omega arith)
 
 -- entries of weight 0 tell no failed answer
 pub all_told_in : (entries : List Entry) (path : List ℕ) → sum_by weight_of entries ≡ 0 → answers_in entries path ≡ told 0

@@ -36,9 +36,7 @@ with_stat path stat m unnamed far = record { path = path; stat = Some stat; mark
 
 sized : (k : Kind) (n : ℕ) → (k ≢ kind.File → n ≡ 0) → (is_kind kind.File k || n == 0) ≡ true
 sized kind.File n h = refl
-sized kind.Dir n h = ap (λ m. m == 0) (h (λ e. cc))
-sized kind.Link n h = ap (λ m. m == 0) (h (λ e. cc))
-sized kind.Other n h = ap (λ m. m == 0) (h (λ e. cc))
+sized _ n h = ap (λ m. m == 0) (h (λ e. cc))
 
 -- ---- what the tree has
 
@@ -54,9 +52,8 @@ record IsPlain (path : List ℕ) (stat : Stat) (found : Option Node) : Type 0 wh
 plain_node : (body : Body) (mtime : Option ℕ) (path : List ℕ) (stat : Stat) → stat ≡ stat_of (record { body = body; mtime = mtime }) →
     is_kind kind.Dir stat.kind ≡ false → is_kind kind.Link stat.kind ≡ false → IsPlain path stat (Some (record { body = body; mtime = mtime }))
 plain_node (dir far) mtime path stat e l k = absurd (false≢true (sym l ∙ ap (λ s. is_kind kind.Dir s.kind) e))
-plain_node (file bytes) mtime path stat e l k = record { entry = ap (λ s. with_stat path s mark.Fine 0 0) e; none = refl }
 plain_node (link text) mtime path stat e l k = absurd (false≢true (sym k ∙ ap (λ s. is_kind kind.Link s.kind) e))
-plain_node other mtime path stat e l k = record { entry = ap (λ s. with_stat path s mark.Fine 0 0) e; none = refl }
+plain_node _ mtime path stat e l k = record { entry = ap (λ s. with_stat path s mark.Fine 0 0) e; none = refl }
 
 plain : (found : Option Node) (path : List ℕ) (stat : Stat) → Some stat ≡ option_map stat_of found → is_kind kind.Dir stat.kind ≡ false →
     is_kind kind.Link stat.kind ≡ false → IsPlain path stat found
@@ -71,8 +68,6 @@ record IsLinkThere (stat : Stat) (text : List ℕ) (found : Option Node) : Type 
 
 link_node : (body : Body) (mtime : Option ℕ) (stat : Stat) (text : List ℕ) → stat ≡ stat_of (record { body = body; mtime = mtime }) →
     text_of body ≡ Some text → IsLinkThere stat text (Some (record { body = body; mtime = mtime }))
-link_node (dir far) mtime stat text e l = absurd cc
-link_node (file bytes) mtime stat text e l = absurd cc
 link_node (link own) mtime stat text e l =
     let same : own ≡ text = cc in
     record {
@@ -80,7 +75,7 @@ link_node (link own) mtime stat text e l =
       there = ap (λ t. Some (let n : Node = record { body = link t; mtime = mtime } in n)) same;
       told = e ∙ ap (λ t. stat_of (record { body = link t; mtime = mtime })) same;
     }
-link_node other mtime stat text e l = absurd cc
+link_node _ mtime stat text e l = absurd cc
 
 link_there : (found : Option Node) (stat : Stat) (text : List ℕ) → Some stat ≡ option_map stat_of found → link_at found ≡ Some text →
     IsLinkThere stat text found
@@ -108,9 +103,7 @@ record IsDirThere (stat : Stat) (found : Option Node) : Type 0 where
 dir_node : (body : Body) (mtime : Option ℕ) (stat : Stat) → stat ≡ stat_of (record { body = body; mtime = mtime }) →
     is_kind kind.Dir stat.kind ≡ true → IsDirThere stat (Some (record { body = body; mtime = mtime }))
 dir_node (dir far) mtime stat e l = record { far = far; mtime = mtime; there = refl; told = e }
-dir_node (file bytes) mtime stat e l = absurd (false≢true (sym (ap (λ s. is_kind kind.Dir s.kind) e) ∙ l))
-dir_node (link text) mtime stat e l = absurd (false≢true (sym (ap (λ s. is_kind kind.Dir s.kind) e) ∙ l))
-dir_node other mtime stat e l = absurd (false≢true (sym (ap (λ s. is_kind kind.Dir s.kind) e) ∙ l))
+dir_node _ mtime stat e l = absurd (false≢true (sym (ap (λ s. is_kind kind.Dir s.kind) e) ∙ l))
 
 dir_there : (found : Option Node) (stat : Stat) → Some stat ≡ option_map stat_of found → is_kind kind.Dir stat.kind ≡ true → IsDirThere stat found
 dir_there None stat e l = absurd (cc)
@@ -119,9 +112,8 @@ dir_there (Some node) stat e l = dir_node node.body node.mtime stat (cc) l
 -- ---- a stat alone
 
 pub stat_at : (path : List ℕ) (answer : Result (Option Stat) Failed) → (by_stat path answer).path ≡ path
-stat_at path (Err failed) = refl
-stat_at path (Ok None) = refl
 stat_at path (Ok (Some stat)) = refl
+stat_at path _ = refl
 
 failed_told : (tree : Option Files) (path : List ℕ) → IfSome tree IsTree → length path ≤ 4095 →
     IfSome tree (λ files. IsDone files (bare path mark.StatFailed, []))
@@ -218,10 +210,8 @@ never_told None path stat h l n = tt
 never_told (Some files) path stat h l n = absurd (some_link (get files path) stat h l n)
 
 no_dir_link : (k : Kind) → is_kind kind.Link k ≡ true → (is_kind kind.Dir k && true) ≡ false
-no_dir_link kind.File l = absurd (false≢true l)
-no_dir_link kind.Dir l = absurd (false≢true l)
 no_dir_link kind.Link l = refl
-no_dir_link kind.Other l = absurd (false≢true l)
+no_dir_link _ l = absurd (false≢true l)
 
 pub stat_and_link : (tree : Option Files) (path : List ℕ) (old mid new : ℕ) (answer : Result (Option Stat) Failed) (text : Result (List ℕ) LinkError) →
     IsStat tree path old mid answer → IsReading tree path mid new text → is_linked (by_stat path answer) ≡ true →

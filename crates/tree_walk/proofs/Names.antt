@@ -52,8 +52,4 @@ pub no_names : (path : List ℕ) (names : List (List ℕ)) → names ≡ [] → 
 unfolding IsStrictlySortedBy
 no_names path names e =
     subst (AreNames path) (sym e)
-    (record {
-      valid = All-from_recursion Name [] tt;
-      short = All-from_recursion (λ n. length (joined path n) ≤ 4095) [] tt;
-      ascend = tt;
-    })
+    (record { valid = All-from_recursion Name [] tt; short = All-from_recursion (λ n. length (joined path n) ≤ 4095) [] tt; ascend = tt })

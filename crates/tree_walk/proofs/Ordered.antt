@@ -14,9 +14,8 @@ pub record InOrder (paths : List (List ℕ)) : Type 0 where
 
 -- a path put among those in path order
 abbrev put : List ℕ → Ordering → List ℕ → List (List ℕ) → List (List ℕ) → List (List ℕ)
-put x Less y ys more = x ∷ y ∷ ys
-put x Equal y ys more = x ∷ y ∷ ys
 put x Greater y ys more = y ∷ more
+put x _ y ys more = x ∷ y ∷ ys
 
 abbrev among : List ℕ → List (List ℕ) → List (List ℕ)
 among x [] = x ∷ []

@@ -97,9 +97,7 @@ IsListed e = (is_of kind.Dir e.stat ≡ true) × (e.mark ≡ mark.Fine)
 listed_dir : (body : Body) (mtime : Option ℕ) (u : ℕ) (p : List ℕ) → is_dir_body body ≡ true →
     IsListed (entry_of_node (told u) (record { body = body; mtime = mtime }) p)
 listed_dir (dir far) mtime u p d = (refl, refl)
-listed_dir (file bytes) mtime u p d = absurd (false≢true d)
-listed_dir (link text) mtime u p d = absurd (false≢true d)
-listed_dir other mtime u p d = absurd (false≢true d)
+listed_dir _ mtime u p d = absurd (false≢true d)
 
 listed : (found : Option Node) (u : ℕ) (p : List ℕ) → is_dir found ≡ true → IsListed (entry_of (told u) found p)
 listed None u p d = absurd (false≢true d)

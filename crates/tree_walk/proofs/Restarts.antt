@@ -112,13 +112,7 @@ walks_once : (x : List ℕ) (w : List ℕ → List Entry) → ((p : List ℕ) �
     sum_by (λ e. one x e.path) (flat_map w ps) ≤ sum_by (covers x) ps
 walks_once x w h [] = omega arith
 walks_once x w h (p ∷ ps) =
-    omega (
-      arith,
-      sum_by-append (λ (e : Entry). one x e.path) (w p) (flat_map w ps),
-      h p,
-      walks_once x w h ps,
-      sum_by-cons (covers x) p ps,
-    )
+    omega (arith, sum_by-append (λ (e : Entry). one x e.path) (w p) (flat_map w ps), h p, walks_once x w h ps, sum_by-cons (covers x) p ps)
 
 down_once : (files : Files) (a : Answers) → IsTree files → (x : List ℕ) (levels : ℕ) (p : List ℕ) →
     sum_by (λ e. one x e.path) (walk_down levels files a p) ≤ covers x p

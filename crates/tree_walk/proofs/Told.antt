@@ -15,9 +15,7 @@ record Tells (found : Option Node) (e : Entry) : Type 0 where
 unlisted : (body : Body) (mtime : Option ℕ) (p : List ℕ) →
     Tells (Some (record { body = body; mtime = mtime })) (entry_of_node list_failed (record { body = body; mtime = mtime }) p)
 unlisted (dir far) mtime p = record { stat = refl; stands = refl; far = refl; target = refl }
-unlisted (file bytes) mtime p = record { stat = refl; stands = refl; far = refl; target = refl }
-unlisted (link text) mtime p = record { stat = refl; stands = refl; far = refl; target = refl }
-unlisted other mtime p = record { stat = refl; stands = refl; far = refl; target = refl }
+unlisted _ mtime p = record { stat = refl; stands = refl; far = refl; target = refl }
 
 tells : (answer : Answer) (found : Option Node) (p : List ℕ) → Tells found (entry_of answer found p)
 tells stat_failed found p = record { stat = refl; stands = tt; far = refl; target = refl }
