@@ -15,19 +15,15 @@ use Rattle.tree_dup.proofs.Sifted.{path_of}
 
 alike_stands : (s : Standing) (bytes lead : List ℕ) → standing_alike s ≡ true → Stands s bytes lead → bytes ≡ lead
 alike_stands Alike bytes lead e h = h
-alike_stands Other bytes lead e h = absurd (false≢true e)
-alike_stands (Missed why) bytes lead e h = absurd (false≢true e)
+alike_stands _ bytes lead e h = absurd (false≢true e)
 
 other_stands : (s : Standing) (bytes lead : List ℕ) → standing_other s ≡ true → Stands s bytes lead → bytes ≡ lead → ⊥
-other_stands Alike bytes lead e h = absurd (false≢true e)
 other_stands Other bytes lead e h = h
-other_stands (Missed why) bytes lead e h = absurd (false≢true e)
+other_stands _ bytes lead e h = absurd (false≢true e)
 
 changed_stands : (s : Standing) (bytes lead : List ℕ) → standing_changed s ≡ true → Stands s bytes lead → ⊥
-changed_stands Alike bytes lead e h = absurd (false≢true e)
-changed_stands Other bytes lead e h = absurd (false≢true e)
-changed_stands (Missed Failed) bytes lead e h = absurd (false≢true e)
 changed_stands (Missed Changed) bytes lead e h = h
+changed_stands _ bytes lead e h = absurd (false≢true e)
 
 filtered_times : (p : List ℕ) (test : File → Bool) (b : Bool) (f : File) (run : List File) → test f ≡ b →
     times p (paths_of (filter test (f ∷ run))) ≡ cond b (one_if (pointwise eqb p f.path)) 0 + times p (paths_of (filter test run))
@@ -39,10 +35,8 @@ filtered_times p test false f run e =
 
 one_part : (s : Standing) (n : ℕ) →
     cond (standing_alike s) n 0 + cond (standing_other s) n 0 + (cond (standing_failed s) n 0 + cond (standing_changed s) n 0) ≡ n
-one_part Alike n = omega arith
-one_part Other n = omega arith
-one_part (Missed Failed) n = omega arith
 one_part (Missed Changed) n = omega arith
+one_part _ n = omega arith
 
 -- each file of a run goes to one part
 dealt_times : (p : List ℕ) (run : List File) →
@@ -313,16 +307,12 @@ class_counted m run' paths left found found' old new d k =
     record { kept = k.kept; rose = λ h. (let r = k.rose h in omega (arith, r, more)) }
 
 failed_shows : {S : Type 0} (gives : Asks S) (path : List ℕ) (s : Standing) → standing_failed s ≡ true → StandingShows gives path s → ShowsFailure gives path
-failed_shows gives path Alike e h = absurd (false≢true e)
-failed_shows gives path Other e h = absurd (false≢true e)
 failed_shows gives path (Missed Failed) e h = h
-failed_shows gives path (Missed Changed) e h = absurd (false≢true e)
+failed_shows gives path _ e h = absurd (false≢true e)
 
 changed_shows : {S : Type 0} (gives : Asks S) (path : List ℕ) (s : Standing) → standing_changed s ≡ true → StandingShows gives path s → ShowsChange gives path
-changed_shows gives path Alike e h = absurd (false≢true e)
-changed_shows gives path Other e h = absurd (false≢true e)
-changed_shows gives path (Missed Failed) e h = absurd (false≢true e)
 changed_shows gives path (Missed Changed) e h = h
+changed_shows gives path _ e h = absurd (false≢true e)
 
 pub alike_shows : {S : Type 0} (gives : Asks S) (run : List File) → map still run ≡ run → All (Shows gives) run
 alike_shows gives run e k d l =

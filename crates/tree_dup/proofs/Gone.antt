@@ -15,8 +15,7 @@ none_keeps n old new z = record { kept = omega (arith, z.kept); rose = λ h. ome
 
 alike_fails : (s : Standing) → standing_alike s ≡ true → failures_of s ≡ 0
 alike_fails Alike e = refl
-alike_fails Other e = absurd (false≢true e)
-alike_fails (Missed why) e = absurd (false≢true e)
+alike_fails _ e = absurd (false≢true e)
 
 set_keeps_up : (was : ℕ) (files : List File) (k : ℕ) (x d : File) (old mid new : ℕ) → k < length files → KeepsUp was (failures files) old mid →
     KeepsUp (failures_of (get_or files k d).standing) (failures_of x.standing) mid new → KeepsUp was (failures (set files k x)) old new

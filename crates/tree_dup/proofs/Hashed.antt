@@ -267,6 +267,5 @@ module _ (k : ℕ) (files files' : List File) (found found' : Grouping) (inside 
       (h j d (behind j k l other) (omega (arith, n, length_left files k f inside)))))
 
 pub faults_of_hash : (hash : Result ℕ Missing) (old new : ℕ) → RoseBy 0 old new → (hash ≡ Err Failed → RoseBy 1 old new) → RoseBy (hash_faults hash) old new
-faults_of_hash (Ok value) old new z one = z
 faults_of_hash (Err Failed) old new z one = one refl
-faults_of_hash (Err Changed) old new z one = z
+faults_of_hash _ old new z one = z

@@ -113,12 +113,7 @@ divided_joint (suc a) b c (suc d) m n e f g h l = absurd (g (omega arith) (omega
 pub divided_once : (p : List ℕ) (before : List (List (List ℕ))) (pile one two : List (List ℕ)) (after : List (List (List ℕ))) (m n c : ℕ) →
     times p one + times p two + n ≤ times p pile + m → times_in p (before ++ pile ∷ after) + m ≤ c → times_in p (before ++ one ∷ (two ∷ after)) + n ≤ c
 divided_once p before pile one two after m n c l h =
-    omega (
-      arith,
-      times_in-split p before pile after,
-      times_in-split p before one (two ∷ after),
-      sum_by-cons (times p) two after,
-    )
+    omega (arith, times_in-split p before pile after, times_in-split p before one (two ∷ after), sum_by-cons (times p) two after)
 
 pub divided_joints : (p q : List ℕ) (before : List (List (List ℕ))) (pile one two : List (List ℕ)) (after : List (List (List ℕ))) →
     times p one + times p two ≡ times p pile → times q one + times q two ≡ times q pile →

@@ -26,13 +26,11 @@ ties : (o p : Ordering) → o ≡ ordering_reverse p → is_lt o ≡ false → i
 ties Less p r e f = absurd (false≢true (sym e))
 ties Equal p r e f = refl
 ties Greater Less r e f = absurd (false≢true (sym f))
-ties Greater Equal r e f = cc
-ties Greater Greater r e f = cc
+ties Greater _ r e f = cc
 
 then_equal : (o : Ordering) → ordering_then o Equal ≡ o
 then_equal Less = refl
-then_equal Equal = refl
-then_equal Greater = refl
+then_equal _ = refl
 
 -- the order by content is that of the keys
 same_cmp : (a b : File) → slice_cmp nat_cmp (key a) (key b) ≡ content_cmp a b

@@ -56,8 +56,7 @@ missed_stands told path end Changed h =
 
 pub is_alike_so : (s : Standing) → standing_alike s ≡ true → s ≡ Alike
 is_alike_so Alike e = refl
-is_alike_so Other e = absurd (false≢true e)
-is_alike_so (Missed why) e = absurd (false≢true e)
+is_alike_so _ e = absurd (false≢true e)
 
 -- what differs so far differs with a piece more
 pub stays_apart : (s : Standing) (bytes lead piece : List ℕ) (at room : ℕ) → standing_alike s ≡ false → length lead ≡ at →
@@ -172,12 +171,7 @@ sizes_still size = all_still (λ f. f.size ≡ size) (λ f h. h) (λ f h. h)
 pub divided_first : (told : Option Files) (files : List File) (hasher : Sha256) → map still files ≡ files → Holds256 hasher [] →
     IfSome told (λ tree. All (IsThere tree) files → AreDivided tree 0 hasher files)
 divided_first told files hasher e held = if_any told (λ tree. All (IsThere tree) files → AreDivided tree 0 hasher files)
-    (λ tree there. record {
-      lead = [];
-      held = held;
-      long = refl;
-      each = λ k d l. subst (λ s. Stands s [] []) (sym (still_alike files e k d l)) refl;
-    })
+    (λ tree there. record { lead = []; held = held; long = refl; each = λ k d l. subst (λ s. Stands s [] []) (sym (still_alike files e k d l)) refl })
 
 pub divided_last : (told : Option Files) (size at : ℕ) (run files : List File) (hasher : Sha256) (digest : List ℕ) → size ≤ at →
     map still files ≡ map still run → All (λ f. f.size ≡ size) run → ((m : List ℕ) → Holds256 hasher m → digest ≡ sha256 m) →

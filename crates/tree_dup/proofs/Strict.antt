@@ -45,8 +45,7 @@ strict xs up once = by xs (far xs up) once
 
 not_less : (o : Ordering) → o ≡ ordering_reverse o → o ≡ Less → ⊥
 not_less Less e f = cc
-not_less Equal e f = cc
-not_less Greater e f = cc
+not_less _ e f = cc
 
 none_behind : (x : List ℕ) (xs : List (List ℕ)) → AllByRecursion (λ y. path_cmp x y ≡ Less) xs → times x xs ≡ 0
 none_behind x [] h = refl
