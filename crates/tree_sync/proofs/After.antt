@@ -56,10 +56,8 @@ size_is : (a b : ℕ) → a ≡ b → (a == b) ≡ true
 size_is a b e = grind (arith, nat_tests)
 
 no_size : (b : Body) → (kind_of b ≡ kind.File → ⊥) → size_of b ≡ 0
-no_size (dir far) h = refl
 no_size (file bytes) h = absurd (h refl)
-no_size (link text) h = refl
-no_size other h = refl
+no_size _ h = refl
 
 alike_sizes : (n m : Node) → AreAlike n m → size_of m.body ≡ size_of n.body
 alike_sizes n m a = by n.body m.body a.kind a.bytes

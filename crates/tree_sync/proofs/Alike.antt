@@ -13,35 +13,25 @@ other_kinds b j k e off f = false≢true (sym off ∙ sym (ap (λ x. is_kind x k
   where
     same : (k : Kind) → is_kind k k ≡ true
     same kind.File = refl
-    same kind.Dir = refl
-    same kind.Link = refl
-    same kind.Other = refl
+    same _ = refl
 
 -- ---- sizes and texts
 
 pub file_size : (b : Body) → kind_of b ≡ kind.File → size_of b ≡ length (bytes_of b)
-file_size (dir far) e = absurd (cc)
 file_size (file bytes) e = refl
-file_size (link text) e = absurd (cc)
-file_size other e = absurd (cc)
+file_size _ e = absurd (cc)
 
 link_kind : (b : Body) → is_some (text_of b) ≡ true → kind_of b ≡ kind.Link
-link_kind (dir far) e = absurd (false≢true e)
-link_kind (file bytes) e = absurd (false≢true e)
 link_kind (link text) e = refl
-link_kind other e = absurd (false≢true e)
+link_kind _ e = absurd (false≢true e)
 
 no_bytes : (b : Body) → (kind_of b ≡ kind.File → ⊥) → bytes_of b ≡ []
-no_bytes (dir far) h = refl
 no_bytes (file bytes) h = absurd (h refl)
-no_bytes (link text) h = refl
-no_bytes other h = refl
+no_bytes _ h = refl
 
 no_text : (b : Body) → (kind_of b ≡ kind.Link → ⊥) → text_of b ≡ None
-no_text (dir far) h = refl
-no_text (file bytes) h = refl
 no_text (link text) h = absurd (h refl)
-no_text other h = refl
+no_text _ h = refl
 
 -- nodes of one kind are alike where, being files, they have the same bytes, and, being links, the same text
 pub alike_by : (n m : Node) → kind_of m.body ≡ kind_of n.body → (kind_of n.body ≡ kind.File → bytes_of m.body ≡ bytes_of n.body) →

@@ -121,8 +121,7 @@ module _ (pair : Pair) (source dest : List Entry) (k : Known pair source dest) w
     where
       by : (x : Exist) (t : Two) → is_both x ≡ true → is_common t ≡ true → (is_only_dest x || is_differ t) ≡ false
       by exist.Common two.Common b c = refl
-      by exist.Common two.Differ b c = absurd (false≢true c)
-      by exist.Common two.NoValue b c = absurd (false≢true c)
+      by exist.Common _ b c = absurd (false≢true c)
       by exist.OnlySrc t b c = absurd (false≢true b)
       by exist.OnlyDest t b c = absurd (false≢true b)
 

@@ -17,9 +17,7 @@ kind_eq j k e = absurd (false≢true e)
 
 pub kind_is : (k : Kind) → is_kind k k ≡ true
 kind_is kind.File = refl
-kind_is kind.Dir = refl
-kind_is kind.Link = refl
-kind_is kind.Other = refl
+kind_is _ = refl
 
 -- two stats of one kind
 record SameKind (a b : Option Stat) : Type 0 where

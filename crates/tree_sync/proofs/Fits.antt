@@ -16,9 +16,7 @@ use Rattle.tree_sync.proofs.Sided.{IsTold, Stands, StatTold, TextTold, all_told,
 
 body_dir : (b : Body) → kind_of b ≡ kind.Dir → is_dir_body b ≡ true
 body_dir (dir far) e = refl
-body_dir (file bytes) e = absurd (cc)
-body_dir (link text) e = absurd (cc)
-body_dir other e = absurd (cc)
+body_dir _ e = absurd (cc)
 
 -- a node with the stat of a directory is one
 stands_dir : (files : Files) (q : List ℕ) (st : Stat) → Stands files q st → st.kind ≡ kind.Dir → is_dir (get files q) ≡ true

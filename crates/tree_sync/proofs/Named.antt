@@ -12,10 +12,7 @@ use Rattle.tree_sync.proofs.Members.{in_kept, in_map, one_off}
 
 closed_off : (m : Mark) → is_closed m ≡ true → is_fine m ≡ false
 closed_off mark.Fine e = absurd (false≢true e)
-closed_off mark.StatFailed e = refl
-closed_off mark.ListFailed e = refl
-closed_off mark.Gone e = refl
-closed_off mark.Changed e = refl
+closed_off _ e = refl
 
 -- of a partial entry that is not gone not all was told
 partial_noted : (e : Entry) → not (is_gone e.mark) ≡ true → is_partial e ≡ true → is_noted e ≡ true
