@@ -26,7 +26,7 @@ use Rattle.run_report.specs.Sides.{Side, side_with}
 use Rattle.run_entries.specs.Fine.{IsFineSide}
 use Rattle.run_entries.specs.Naming.{copy_notes, listing_notes}
 use Rattle.run_entries.specs.Stopping.{StopsListing}
-use Rattle.copy_report.specs.declared.copying.CopyTask.{CopyTask}
+use Rattle.copy_report.specs.declared.task.CopyTask.{CopyTask}
 use Rattle.copy_report.specs.Placing.{Places, Surveys, IsNowhere}
 
 -- the parts of a task

@@ -6,28 +6,14 @@ ghost use Rattle.copy_report.specs.Copying.{copy_asked, ReportsCopy, StopsCopy, 
 use crate::acting::copy_and_tell;
 use crate::placing::place_targets;
 use crate::printing::failed_report;
+use crate::task::CopyTask;
 use crate::walking::walk_sources;
 use outside::Wide;
-use path_text::Path;
 use run_report::{Report, Stop};
 use std::alloc::Global;
 use std::sync::Wait;
 use std::thread::Threads;
-use tool_words::Common;
 use tree_copy::PlaceError;
-
-/// The task of dcp.
-#[derive(Debug, Drop)]
-pub struct CopyTask {
-    /// The settings of the walk, and the number of ranks and hosts that copy entries.
-    pub common: Common,
-    /// The sources, which are copied with everything below them.
-    pub sources: Vec<Path>,
-    /// The destination: an existing directory, into which they go, or, for one source, the path of its copy.
-    pub dest: Path,
-    /// A file of more bytes than this is copied in ranges. Without it no file is.
-    pub range: Option<u64>,
-}
 
 /// Places the targets, walks the sources, copies the entries to their targets, and makes the texts.
 pub fn report_of_copy<T: Threads + Wait + Sync, G: Wide<Reader: Send, Part: Send, Span: Send>>(

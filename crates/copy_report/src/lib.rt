@@ -7,6 +7,7 @@
 //! - `copying` has the task and all of its work.
 //! - `placing` has the look at the destination, `walking` the walk of the sources, and `acting` the copy.
 //! - `naming` has the notes, and `printing` the texts.
+//! - `task` has the task that the call is given.
 //! - `laws` says when it succeeds.
 //!
 //! Proved: it answers as its four definitions in `specs/Copying` say. They are its report, the reasons to stop, the paths that it
@@ -21,7 +22,9 @@ mod laws;
 mod naming;
 mod placing;
 mod printing;
+mod task;
 mod walking;
 
-pub use copying::{CopyTask, report_of_copy};
+pub use copying::report_of_copy;
 pub use laws::fine_copy_succeeds;
+pub use task::CopyTask;
