@@ -18,7 +18,7 @@ use Rattle.run_report.specs.Sides.{Side, side_with}
 use Rattle.run_entries.specs.Fine.{IsFineSide, AreThere}
 use Rattle.run_entries.specs.Naming.{removal_notes}
 use Rattle.run_entries.specs.Stopping.{StopsAfterLooks}
-use Rattle.remove_report.specs.declared.removing.RemoveTask.{RemoveTask}
+use Rattle.remove_report.specs.declared.task.RemoveTask.{RemoveTask}
 use Rattle.remove_report.specs.Choosing.{Chooses, Acts, LeavesAllOthers, ChoosesWhole}
 
 -- the request of a task

@@ -5,6 +5,7 @@
 //!
 //! - `removing` has these steps, `choosing` the walk and the choice, and `acting` the removal.
 //! - `naming` has the notes, and `printing` the texts.
+//! - `task` has the task that the call is given.
 //! - `laws` says when it succeeds.
 //!
 //! Proved: it answers as its four definitions in `specs/Removing` say. They are its report, the reasons to stop, the
@@ -20,6 +21,8 @@ mod laws;
 mod naming;
 mod printing;
 mod removing;
+mod task;
 
 pub use laws::fine_remove_succeeds;
-pub use removing::{RemoveTask, report_of_remove};
+pub use removing::report_of_remove;
+pub use task::RemoveTask;

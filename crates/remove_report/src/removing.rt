@@ -5,27 +5,13 @@ ghost use Rattle.remove_report.specs.Removing.{remove_asked, ReportsRemove, Stop
 
 use crate::acting::remove_and_tell;
 use crate::choosing::find_lower;
+use crate::task::RemoveTask;
 use outside::Ground;
-use path_text::Path;
 use run_entries::Findings;
 use run_report::{Report, Stop};
 use std::alloc::Global;
 use std::sync::Wait;
 use std::thread::Threads;
-use tool_words::{Common, Tests};
-
-/// The task of drm.
-#[derive(Debug, Drop)]
-pub struct RemoveTask {
-    /// The settings of the walk, and the number of ranks and hosts that remove entries.
-    pub common: Common,
-    /// Where the walk starts.
-    pub roots: Vec<Path>,
-    /// The tests that choose entries.
-    pub tests: Tests,
-    /// Whether it is a dry run, which removes nothing.
-    pub dryrun: bool,
-}
 
 /// Finds the entries, removes them unless it is a dry run, and makes the texts. `now` is in seconds since 1970.
 pub fn report_of_remove<T: Threads + Wait + Sync, G: Ground<Reader: Send, Part: Send>>(
