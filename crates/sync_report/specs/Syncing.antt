@@ -37,7 +37,7 @@ use Rattle.run_report.specs.declared.stops.Stop.TheVariants as stop
 use Rattle.run_report.specs.Sides.{Side, side_with}
 use Rattle.run_entries.specs.Fine.{IsFineSide}
 use Rattle.run_entries.specs.Naming.{copy_notes, listing_notes, path_notes, removal_notes}
-use Rattle.sync_report.specs.declared.syncing.SyncTask.{SyncTask}
+use Rattle.sync_report.specs.declared.task.SyncTask.{SyncTask}
 use Rattle.sync_report.specs.Placing.{IsNowhere, StopsAfterLook, Surveys}
 
 -- the request of a task

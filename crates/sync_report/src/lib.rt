@@ -6,6 +6,7 @@
 //! - `syncing` has these steps. `placing` has the look at the destination's parent, `walking` the walks, and `acting` the
 //!   sync.
 //! - `naming` has the notes, and `printing` the texts.
+//! - `task` has the task that the call is given.
 //! - `laws` says when it succeeds.
 //!
 //! Proved: it answers as its four definitions in `specs/Syncing` say. They are its report, the reasons to stop, the
@@ -22,7 +23,9 @@ mod naming;
 mod placing;
 mod printing;
 mod syncing;
+mod task;
 mod walking;
 
 pub use laws::fine_sync_succeeds;
-pub use syncing::{SyncTask, report_of_sync};
+pub use syncing::report_of_sync;
+pub use task::SyncTask;

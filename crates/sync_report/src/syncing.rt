@@ -7,28 +7,14 @@ use crate::acting::sync_sides;
 use crate::naming::failures;
 use crate::placing::place_pair;
 use crate::printing::{failed_report, sync_report};
+use crate::task::SyncTask;
 use crate::walking::walk_pair;
 use outside::Ground;
-use path_text::Path;
 use run_report::{Report, Stop};
 use std::alloc::Global;
 use std::sync::Wait;
 use std::thread::Threads;
-use tool_words::Common;
 use tree_copy::{Pair, PlaceError};
-
-/// The task of dsync.
-#[derive(Debug, Drop)]
-pub struct SyncTask {
-    /// The settings of each of the two walks, and the number of ranks and hosts that copy and remove entries.
-    pub common: Common,
-    /// The source.
-    pub source: Path,
-    /// The destination, which is made equal to the source.
-    pub dest: Path,
-    /// Whether entries that only the destination has are removed.
-    pub delete: bool,
-}
 
 /// Tests whether there is a place for the destination, walks both sides, makes them equal, and makes the texts.
 pub fn report_of_sync<T: Threads + Wait + Sync, G: Ground>(
