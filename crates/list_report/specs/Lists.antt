@@ -18,7 +18,7 @@ use Rattle.run_entries.specs.Entries.{Finds, InOrder, notes_text}
 use Rattle.run_entries.specs.Saving.{Saved, output_of, SameButOutputs}
 use Rattle.run_entries.specs.Stopping.{StopsAfterLooks, StopsAfterListing}
 use Rattle.run_entries.specs.Fine.{IsFineSide, AreThere}
-use Rattle.list_report.specs.declared.lists.ListTask.{ListTask}
+use Rattle.list_report.specs.declared.task.ListTask.{ListTask}
 
 -- the request of a task
 abbrev pub list_asked : ListTask → ListAsked

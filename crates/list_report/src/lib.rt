@@ -5,6 +5,7 @@
 //! summary.
 //!
 //! - `lists` has the first, `made` the second, and `printing` the texts of both.
+//! - `task` has the task that the call is given.
 //! - `laws` says when they succeed.
 //!
 //! Proved: each answers as its four definitions in `specs/Lists` and `specs/Tests` say. They are its report, the reasons to
@@ -16,8 +17,10 @@ mod laws;
 mod lists;
 mod made;
 mod printing;
+mod task;
 
 pub use laws::{fine_list_succeeds, fine_test_succeeds};
-pub use lists::{ListTask, report_of_list};
+pub use lists::report_of_list;
 pub use made::{TestTask, report_of_test};
 pub use printing::list_report;
+pub use task::ListTask;

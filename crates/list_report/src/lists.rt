@@ -4,30 +4,13 @@ ghost use Rattle.list_report.specs.Prelude.{[], IfOk, IfErr, RoseBy, nothing_len
 ghost use Rattle.list_report.specs.Lists.{list_asked, ReportsList, StopsList, LeavesList};
 
 use crate::printing::list_report;
-use flat_list::Field;
+use crate::task::ListTask;
 use outside::Ground;
-use path_text::Path;
 use run_entries::{find, save_list};
 use run_report::{Report, Stop};
 use std::alloc::Global;
 use std::sync::Wait;
 use std::thread::Threads;
-use tool_words::{Common, Start, Tests};
-
-/// The task of dwalk or dfind.
-#[derive(Debug, Drop)]
-pub struct ListTask {
-    /// The settings of the walk.
-    pub common: Common,
-    /// Where it starts.
-    pub start: Start,
-    /// The tests that choose entries. Without them all are chosen.
-    pub tests: Option<Tests>,
-    /// The field by which the list is sorted, and whether it descends. Without it the list is in path order.
-    pub sort: Option<(Field, bool)>,
-    /// The file to which the chosen entries are written.
-    pub output: Option<Path>,
-}
 
 /// Finds the entries, saves them if asked, and makes the texts. `now` is in seconds since 1970.
 pub fn report_of_list<T: Threads + Wait + Sync, G: Ground<Reader: Send>>(
