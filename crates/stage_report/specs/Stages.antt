@@ -36,7 +36,7 @@ use Rattle.checkpoints.specs.Kept.{IsKept, IsCheckpoint, checkpoint_paths}
 use Rattle.checkpoints.specs.Stopping.{StopsReading, StopsWriting}
 use Rattle.checkpoints.specs.Laws.{IsFineKept, IsFree}
 use Rattle.list_report.specs.Lists.{summary_text}
-use Rattle.stage_report.specs.declared.stages.StageTask.{StageTask}
+use Rattle.stage_report.specs.declared.task.StageTask.{StageTask}
 
 -- the request of a task
 abbrev pub stage_asked : StageTask → StageAsked

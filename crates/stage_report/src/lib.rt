@@ -7,6 +7,7 @@
 //!
 //! - `stages` has the call, `beginning` the beginning of a stage, and `walking` its walk.
 //! - `joining` has the list of two stages together, and `keeping` the checkpoint that a stage leaves.
+//! - `task` has the task that the call is given.
 //! - `laws` has the laws of several stages, and says when a stage succeeds.
 //!
 //! Proved: a stage answers as its four definitions in `specs/Stages` say. They are its report, the reasons to stop, the paths
@@ -24,9 +25,11 @@ mod joining;
 mod keeping;
 mod laws;
 mod stages;
+mod task;
 mod walking;
 
 pub use laws::{
     checkpoints_are_cuts, fine_stages_succeed, stages_print_the_walk, stopped_stages_are_kept,
 };
-pub use stages::{StageTask, report_of_stage};
+pub use stages::report_of_stage;
+pub use task::StageTask;

@@ -6,8 +6,8 @@ ghost use Rattle.stage_report.specs.Private.{list_in, IsWritable, Walks, WalksNo
 
 use crate::beginning::begin_stage;
 use crate::keeping::keep;
+use crate::task::StageTask;
 use crate::walking::{Stage, walk_stage};
-use flat_list::Field;
 use list_report::list_report;
 use outside::Ground;
 use path_text::Path;
@@ -17,23 +17,6 @@ use std::alloc::Global;
 use std::sync::Wait;
 use std::thread::Threads;
 use tool_words::Common;
-
-/// The task of a dwalk that may stop, or that continues.
-#[derive(Debug, Drop)]
-pub struct StageTask {
-    /// The settings of the walk.
-    pub common: Common,
-    /// The paths at which it begins. They may be nested, or given twice. Without them it continues from the checkpoint.
-    pub starts: Option<Vec<Path>>,
-    /// After how many paths of one rank it stops.
-    pub stop_after: Option<u64>,
-    /// The directory of the checkpoint.
-    pub lists: Path,
-    /// The field by which the list is sorted, and whether it descends. Without it the list is in path order.
-    pub sort: Option<(Field, bool)>,
-    /// The file to which the list is written when it is whole.
-    pub output: Option<Path>,
-}
 
 /// Walks. A whole list is saved, if asked, and printed. For a walk that is cut a checkpoint is
 /// written in its place, and the reason to stop is [`Stop::Stopped`].
