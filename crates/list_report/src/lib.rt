@@ -5,7 +5,7 @@
 //! summary.
 //!
 //! - `lists` has the first, `made` the second, and `printing` the texts of both.
-//! - `task` has the task that the call is given.
+//! - `task` has the task of dwalk and dfind.
 //! - `laws` says when they succeed.
 //!
 //! Proved: each answers as its four definitions in `specs/Lists` and `specs/Tests` say. They are its report, the reasons to
