@@ -6,32 +6,4 @@
 #![tactic(auto)]
 
 #[cfg(test)]
-mod causes;
-#[cfg(test)]
-mod counting;
-#[cfg(test)]
-mod fakes;
-#[cfg(test)]
-mod listed_dirs;
-#[cfg(test)]
-mod lives;
-#[cfg(test)]
-mod made_dirs;
-#[cfg(test)]
-mod private_dirs;
-#[cfg(test)]
-mod rooms;
-#[cfg(test)]
-mod screens;
-#[cfg(test)]
-mod shared;
-#[cfg(test)]
-mod streams;
-#[cfg(test)]
-mod swapping;
-#[cfg(test)]
-mod swaps;
-#[cfg(test)]
-mod taken_over;
-#[cfg(test)]
-mod working_dirs;
+mod tests;

@@ -6,16 +6,4 @@
 #![tactic(auto)]
 
 #[cfg(test)]
-mod of_checkpoints;
-#[cfg(test)]
-mod of_dcp;
-#[cfg(test)]
-mod of_drm;
-#[cfg(test)]
-mod of_long_lists;
-#[cfg(test)]
-mod of_stops;
-#[cfg(test)]
-mod of_sweeps;
-#[cfg(test)]
-mod rows;
+mod tests;

@@ -1,7 +1,7 @@
 //! The lines about calls that failed, in the file of `MFU_ERRORS`.
-use crate::rooms::{Room, parsed};
-use crate::screens::{Hand, Screen};
-use crate::shared::so;
+use crate::tests::rooms::{Room, parsed};
+use crate::tests::screens::{Hand, Screen};
+use crate::tests::shared::so;
 use real_disk::{Call, Watch, Watched};
 use std::fs::File;
 use std::io;

@@ -1,7 +1,7 @@
 //! The line that shows on a terminal how far a run is.
-use crate::rooms::{Node, Room};
-use crate::screens::{Hand, Screen};
-use crate::shared::{bytes, same, so};
+use crate::tests::rooms::{Node, Room};
+use crate::tests::screens::{Hand, Screen};
+use crate::tests::shared::{bytes, same, so};
 use outside::{Ground, Tree};
 use real_disk::{AfterLive, Call, Live, RealGround, Watch, Watched};
 use std::fs::Files;

@@ -1,5 +1,5 @@
 //! What the system of a test can't be made to tell: names that are no text, a directory that fails while it is read, and a clock.
-use crate::shared::{joined, same, so};
+use crate::tests::shared::{joined, same, so};
 use outside::{Ground, ListError, Tree};
 use path_text::Path;
 use real_disk::{RealGround, Watch, seconds};

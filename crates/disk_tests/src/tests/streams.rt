@@ -1,5 +1,5 @@
 //! A stream that takes little.
-use crate::shared::same;
+use crate::tests::shared::same;
 use outside::{Failed, Sink};
 use real_disk::RealSink;
 use std::io;

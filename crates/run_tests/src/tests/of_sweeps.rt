@@ -1,5 +1,5 @@
 //! Runs at every size: 10,000 nodes, also by ranks in threads, a sink full at any byte, and a list cut at any byte.
-use crate::rows::{AMPLE, TIME, parsed, run_with};
+use crate::tests::rows::{AMPLE, TIME, parsed, run_with};
 use flat_list::FlatList;
 use memory_runs::WholeFiles;
 use mfu_top::Status;

@@ -1,9 +1,9 @@
 //! A directory that is made, or found where one should be made, stays that one, also if a link takes its place before it is looked at.
 //! Every user may write in the directory over it.
-use crate::rooms::{Node, Room};
-use crate::shared::{same, so};
-use crate::swapping::{Moment, Swapping, Swaps};
-use crate::swaps::{are_listed_by, exposed_room, is_as_before};
+use crate::tests::rooms::{Node, Room};
+use crate::tests::shared::{same, so};
+use crate::tests::swapping::{Moment, Swapping, Swaps};
+use crate::tests::swaps::{are_listed_by, exposed_room, is_as_before};
 use outside::WriteError;
 use path_text::Path;
 use std::fs;

@@ -1,5 +1,5 @@
 //! Lists of 10,000 entries, in many pages and runs: saved, read, and put into another order.
-use crate::rows::{AMPLE, parsed, run_with};
+use crate::tests::rows::{AMPLE, parsed, run_with};
 use memory_runs::WholeFiles;
 use mfu_top::Status;
 use std::alloc::Global;

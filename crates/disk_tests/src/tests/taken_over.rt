@@ -1,10 +1,10 @@
 //! A rank that took over paths did not look at the directories above them. Its reader looks at them, once, to know whether the paths are
 //! in private directories.
-use crate::counting::{Counting, Counts, counting};
-use crate::private_dirs::is_kept;
-use crate::rooms::{Node, Room};
-use crate::shared::{same, so};
-use crate::swaps::{are_listed, is_as_before, room_with_modes, swap};
+use crate::tests::counting::{Counting, Counts, counting};
+use crate::tests::private_dirs::is_kept;
+use crate::tests::rooms::{Node, Room};
+use crate::tests::shared::{same, so};
+use crate::tests::swaps::{are_listed, is_as_before, room_with_modes, swap};
 use outside::{Tree, WriteError};
 use real_disk::RealReader;
 use std::process::Abort;

@@ -1,7 +1,7 @@
 //! drm over a wide level, and over each choice of a small tree.
 ghost use Rattle.std.specs.Prelude.{◌<◌};
 
-use crate::rows::{AMPLE, TIME, Want, do_as_wanted, parsed, run_with};
+use crate::tests::rows::{AMPLE, TIME, Want, do_as_wanted, parsed, run_with};
 use files_mem::Call;
 use memory_runs::WholeFiles;
 use mfu_top::Status;

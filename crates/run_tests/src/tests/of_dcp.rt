@@ -1,5 +1,5 @@
 //! dcp over a wide level: in threads, with calls that fail, and with looks that wait for each other.
-use crate::rows::{AMPLE, NOW, Want, do_as_wanted, parsed, run_with};
+use crate::tests::rows::{AMPLE, NOW, Want, do_as_wanted, parsed, run_with};
 use files_mem::Call;
 use memory_runs::{WholeBlind, WholeFiles};
 use mfu_top::Status;

@@ -1,5 +1,5 @@
 //! Checkpoints that no row can have: a directory with a very long path, and no rank at all.
-use crate::rows::parsed;
+use crate::tests::rows::parsed;
 use checkpoints::{first_misplaced, read_checkpoint, write_checkpoint};
 use files_mem::MemGround;
 use flat_list::FlatList;

@@ -1,10 +1,10 @@
 //! A run on one thread asks by names alone in its working directory. Each test compares the answers with those by whole paths, and counts
 //! the names alone.
-use crate::counting::{Counting, Counts, counting};
-use crate::private_dirs::is_kept;
-use crate::rooms::Room;
-use crate::shared::{same, so};
-use crate::swaps::{are_listed_by, room_with_modes};
+use crate::tests::counting::{Counting, Counts, counting};
+use crate::tests::private_dirs::is_kept;
+use crate::tests::rooms::Room;
+use crate::tests::shared::{same, so};
+use crate::tests::swaps::{are_listed_by, room_with_modes};
 use outside::{Kind, Tree};
 use real_disk::RealReader;
 use std::alloc::Global;

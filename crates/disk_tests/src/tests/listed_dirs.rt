@@ -1,9 +1,9 @@
 //! The names of a directory are those of the one that was looked at: each test puts something else in its place between a look and the
 //! reading of names, or while a directory is opened for that. Every user may write in the directories.
-use crate::rooms::{Node, Room};
-use crate::shared::{joined, same, so};
-use crate::swapping::{Moment, Swapping, Swaps};
-use crate::swaps::{are_listed, exposed_room, room_with_modes};
+use crate::tests::rooms::{Node, Room};
+use crate::tests::shared::{joined, same, so};
+use crate::tests::swapping::{Moment, Swapping, Swaps};
+use crate::tests::swaps::{are_listed, exposed_room, room_with_modes};
 use outside::{ListError, Tree};
 use real_disk::RealReader;
 use std::process::Abort;

@@ -1,8 +1,8 @@
 //! A directory stays the one that was looked at: each test puts a link in the place of a directory between two calls. Every user may
 //! write in the directories.
-use crate::listed_dirs::lists;
-use crate::rooms::{Node, Room};
-use crate::shared::{same, so};
+use crate::tests::listed_dirs::lists;
+use crate::tests::rooms::{Node, Room};
+use crate::tests::shared::{same, so};
 use outside::{LinkError, ListError, ReadError, Tree, WriteError};
 use real_disk::RealReader;
 use std::alloc::Global;

@@ -1,5 +1,5 @@
 //! A walk stops at every number of paths, on one host and on several, and goes on to the whole.
-use crate::rows::{AMPLE, do_as_wanted, parsed, run_with};
+use crate::tests::rows::{AMPLE, do_as_wanted, parsed, run_with};
 use memory_runs::WholeFiles;
 use mfu_top::Status;
 use std::alloc::Global;

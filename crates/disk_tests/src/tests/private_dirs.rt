@@ -1,9 +1,9 @@
 //! Private directories are asked by their whole paths, and others are guarded: each test puts a link in the place of a directory
 //! between two calls, as only the user and root can in a private one.
-use crate::listed_dirs::lists;
-use crate::rooms::{Node, Room};
-use crate::shared::{same, so};
-use crate::swaps::{are_listed, is_as_before, looked_at, room_with_modes, swap};
+use crate::tests::listed_dirs::lists;
+use crate::tests::rooms::{Node, Room};
+use crate::tests::shared::{same, so};
+use crate::tests::swaps::{are_listed, is_as_before, looked_at, room_with_modes, swap};
 use outside::{LinkError, ListError, ReadError, Tree, WriteError};
 use path_text::MAX_PATH;
 use std::os::unix::fs::{MetadataExt, chown};
