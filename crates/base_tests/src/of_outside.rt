@@ -144,10 +144,6 @@ impl Tree for Drip {
 
     ghost count = { λ d. d.calls.faults };
 
-    fn faults(&self) -> u64 {
-        self.calls.faults
-    }
-
     fn stat(&mut self, _path: &Path) -> Result<Option<Stat>, Failed> {
         Ok(Some(Stat {
             kind: Kind::File,
@@ -180,6 +176,10 @@ impl Tree for Drip {
 
     fn read_link(&mut self, _alloc: Global, _path: &Path) -> Result<LinkText, LinkError> {
         Err(LinkError::NotLink)
+    }
+
+    fn faults(&self) -> u64 {
+        self.calls.faults
     }
 }
 
