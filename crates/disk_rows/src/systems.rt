@@ -102,45 +102,9 @@ impl Files for Stage<'_> {
 
     type Dir = <HostRuntime as Files>::Dir;
 
-    fn open_file(&self, how: &OpenOptions, path: &str) -> io::Result<File> {
-        self.host.open_file(how, path)
-    }
-
-    fn open_dir(&self, path: &str) -> io::Result<Self::Dir> {
-        self.host.open_dir(path)
-    }
-
-    fn metadata(&self, path: &str) -> io::Result<Metadata> {
-        self.host.metadata(path)
-    }
-
-    fn symlink_metadata(&self, path: &str) -> io::Result<Metadata> {
-        self.host.symlink_metadata(path)
-    }
-
-    fn copy(&self, from: &str, to: &str) -> io::Result<u64> {
-        self.host.copy(from, to)
-    }
-
-    fn rename(&self, from: &str, to: &str) -> io::Result<()> {
-        self.host.rename(from, to)
-    }
-
     fn remove_file(&self, path: &str) -> io::Result<()> {
         self.ask(LinkCall::Remove, path)?;
         self.host.remove_file(path)
-    }
-
-    fn create_dir(&self, path: &str) -> io::Result<()> {
-        self.host.create_dir(path)
-    }
-
-    fn remove_dir(&self, path: &str) -> io::Result<()> {
-        self.host.remove_dir(path)
-    }
-
-    fn remove_dir_all<B: Allocator>(&self, alloc: B, path: &str) -> io::Result<()> {
-        self.host.remove_dir_all(alloc, path)
     }
 
     fn read_link<B: Allocator>(&self, alloc: B, path: &str) -> io::Result<PathBuf<B>> {
@@ -151,5 +115,41 @@ impl Files for Stage<'_> {
     fn symlink(&self, original: &str, link: &str) -> io::Result<()> {
         self.ask(LinkCall::Make, link)?;
         self.host.symlink(original, link)
+    }
+
+    fn open_file(&self, how: &OpenOptions, path: &str) -> io::Result<File> {
+        self.host.open_file(how, path)
+    }
+
+    fn rename(&self, from: &str, to: &str) -> io::Result<()> {
+        self.host.rename(from, to)
+    }
+
+    fn metadata(&self, path: &str) -> io::Result<Metadata> {
+        self.host.metadata(path)
+    }
+
+    fn open_dir(&self, path: &str) -> io::Result<Self::Dir> {
+        self.host.open_dir(path)
+    }
+
+    fn create_dir(&self, path: &str) -> io::Result<()> {
+        self.host.create_dir(path)
+    }
+
+    fn copy(&self, from: &str, to: &str) -> io::Result<u64> {
+        self.host.copy(from, to)
+    }
+
+    fn symlink_metadata(&self, path: &str) -> io::Result<Metadata> {
+        self.host.symlink_metadata(path)
+    }
+
+    fn remove_dir(&self, path: &str) -> io::Result<()> {
+        self.host.remove_dir(path)
+    }
+
+    fn remove_dir_all<B: Allocator>(&self, alloc: B, path: &str) -> io::Result<()> {
+        self.host.remove_dir_all(alloc, path)
     }
 }

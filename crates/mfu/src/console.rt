@@ -49,44 +49,32 @@ impl Files for Console<'_> {
 
     type Dir = <HostRuntime as Files>::Dir;
 
-    fn open_file(&self, how: &OpenOptions, path: &str) -> io::Result<File> {
-        self.watched.open_file(how, path)
+    fn copy(&self, from: &str, to: &str) -> io::Result<u64> {
+        self.watched.copy(from, to)
     }
 
     fn open_dir(&self, path: &str) -> io::Result<Self::Dir> {
         self.watched.open_dir(path)
     }
 
-    fn metadata(&self, path: &str) -> io::Result<Metadata> {
-        self.watched.metadata(path)
-    }
-
-    fn symlink_metadata(&self, path: &str) -> io::Result<Metadata> {
-        self.watched.symlink_metadata(path)
-    }
-
-    fn copy(&self, from: &str, to: &str) -> io::Result<u64> {
-        self.watched.copy(from, to)
-    }
-
-    fn rename(&self, from: &str, to: &str) -> io::Result<()> {
-        self.watched.rename(from, to)
-    }
-
-    fn remove_file(&self, path: &str) -> io::Result<()> {
-        self.watched.remove_file(path)
-    }
-
-    fn create_dir(&self, path: &str) -> io::Result<()> {
-        self.watched.create_dir(path)
-    }
-
     fn remove_dir(&self, path: &str) -> io::Result<()> {
         self.watched.remove_dir(path)
     }
 
+    fn open_file(&self, how: &OpenOptions, path: &str) -> io::Result<File> {
+        self.watched.open_file(how, path)
+    }
+
     fn remove_dir_all<B: Allocator>(&self, alloc: B, path: &str) -> io::Result<()> {
         self.watched.remove_dir_all(alloc, path)
+    }
+
+    fn metadata(&self, path: &str) -> io::Result<Metadata> {
+        self.watched.metadata(path)
+    }
+
+    fn create_dir(&self, path: &str) -> io::Result<()> {
+        self.watched.create_dir(path)
     }
 
     fn read_link<B: Allocator>(&self, alloc: B, path: &str) -> io::Result<PathBuf<B>> {
@@ -95,5 +83,17 @@ impl Files for Console<'_> {
 
     fn symlink(&self, original: &str, link: &str) -> io::Result<()> {
         self.watched.symlink(original, link)
+    }
+
+    fn symlink_metadata(&self, path: &str) -> io::Result<Metadata> {
+        self.watched.symlink_metadata(path)
+    }
+
+    fn remove_file(&self, path: &str) -> io::Result<()> {
+        self.watched.remove_file(path)
+    }
+
+    fn rename(&self, from: &str, to: &str) -> io::Result<()> {
+        self.watched.rename(from, to)
     }
 }
