@@ -185,8 +185,8 @@ def promises_name_what_is_there():
 def labels_of_clauses():
     """The labels of the clauses of each function, type, trait and crate, by its name, and the functions of each type and crate."""
     found = {}
-    for file in glob.glob(os.path.join(TOP, "crates/*/src/*.rt")):
-        crate, owner, function = file.split(os.sep)[-3], "", ""
+    for file in glob.glob(os.path.join(TOP, "crates/*/src/**/*.rt"), recursive=True):
+        crate, owner, function = os.path.relpath(file, TOP).split(os.sep)[1], "", ""
         for line in text_of(file).splitlines():
             head = re.match(r"(?:pub )?(?:ghost )?(?:trait (\w+)|impl\b.*?(\w+)(?:<[^{]*>)?(?: where.*)? *\{?$)", line)
             called = re.match(r"\s*(?:pub(?:\(crate\))? )?(?:const |ghost )?fn (\w+)", line)
