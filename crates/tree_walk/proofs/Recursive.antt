@@ -10,10 +10,11 @@ use Rattle.tree_walk.proofs.Names.{are_children, short_children}
 -- a property of the paths that the walk goes on with, where the children of a directory and no paths at all have it
 pub of_children : (P : List (List ℕ) → Type 0) (files : Files) (answer : Answer) (p : List ℕ) → P [] → P (map (joined p) (names_in files p)) →
     P (children_of answer files p)
+of_children P files stat_failed p none some = none
+of_children P files list_failed p none some = none
 of_children P files (told u) p none some = elim (is_dir (get files p)) as (λ b. P (cond b (map (joined p) (names_in files p)) [])) [
   | true ↦ some
   | false ↦ none
-of_children P files _ p none some = none
 ]
 
 pub children_are : (files : Files) (answer : Answer) (p : List ℕ) → IsTree files → AreChildren p (children_of answer files p)
